@@ -1,0 +1,42 @@
+-- Problems: a number of constraints, and inputs whose candidates fall into classes of equal profiles.
+use Rattle.std.specs.Prelude.{ℕ, Bool, not, ◌&&◌, List, [], ◌∷◌, map, length, slice_index, slice_index_or, nat_lt, nat_le, nat_eq, filter, find, position, take, drop, Option, option_and_then}
+use Rattle.std.specs.List.{list_all}
+use Rattle.std.specs.Cmp.Lexicographic.{pointwise}
+use Rattle.ot_theory.specs.Rankings.{numbers_below}
+
+-- An input: its distinct profiles in order of first candidate, each of which is a class, and the class of its winner.
+pub record Input : Type 0 where
+  pub classes : List (List ℕ)
+  pub winner : Option ℕ
+
+pub record Problem : Type 0 where
+  pub constraints : ℕ
+  pub inputs : List Input
+
+abbrev pub same_profile : List ℕ → List ℕ → Bool
+same_profile = pointwise nat_eq
+
+-- the distinct profiles of the candidates, in order of first candidate
+abbrev pub classes_of : List (List ℕ) → List (List ℕ)
+classes_of [] = []
+classes_of (profile ∷ profiles) = profile ∷ filter (λ other. not (same_profile profile other)) (classes_of profiles)
+
+-- the positions of the candidates with this profile
+abbrev pub members_of : List (List ℕ) → List ℕ → List ℕ
+members_of profiles profile = filter (λ k. same_profile profile (slice_index_or profiles k [])) (numbers_below (length profiles))
+
+-- The winning candidate has a positive count, greater than each before it and no smaller than each after it.
+abbrev pub is_winning : List ℕ → ℕ → Bool
+is_winning counts k =
+    nat_lt 0 (slice_index counts k)
+    && list_all (λ count. nat_lt count (slice_index counts k)) (take k counts)
+    && list_all (λ count. nat_le count (slice_index counts k)) (drop k counts)
+
+-- the class of the winning candidate, if some count is positive
+abbrev pub winner_of : List (List ℕ) → List ℕ → Option ℕ
+winner_of profiles counts =
+    option_and_then (λ k. position (same_profile (slice_index_or profiles k [])) (classes_of profiles)) (find (is_winning counts) (numbers_below (length counts)))
+
+-- an input of candidates with these profiles and these counts
+abbrev pub input_of : List (List ℕ) → List ℕ → Input
+input_of profiles counts = record { classes = classes_of profiles; winner = winner_of profiles counts }

@@ -1,0 +1,74 @@
+-- Contradictions, cuts, and the certificates that show that a prefix is refuted.
+use Rattle.std.specs.Prelude.{◌≡◌, ℕ, ◌+◌, Bool, true, false, not, ◌&&◌, ◌||◌, List, [], ◌∷◌, ◌++◌, map, length, take, slice_get, ◌==◌, nat_lt, filter, flat_map, fold, if◌then◌else◌}
+use Rattle.std.specs.List.{list_any, list_all, position_or_len}
+use Rattle.std.specs.Option.{option_map_or}
+use Rattle.ot_theory.specs.declared.Mark.{Mark}
+use Rattle.ot_theory.specs.Rankings.{numbers_below, rankings}
+use Rattle.ot_theory.specs.Conditions.{keeps, fusion, is_contradictory}
+use Rattle.ot_theory.specs.Problems.{Input, Problem}
+use Rattle.ot_theory.specs.Languages.{Term, classes_at, terms_of, condition_of, refuted}
+
+-- no ranking of n constraints keeps all these conditions
+unfoldable pub no_ranking_keeps : ℕ → List (List Mark) → Bool
+no_ranking_keeps n set = not (list_any (λ order. list_all (keeps order) set) (rankings n))
+
+-- a class of an input against another one
+abbrev pub is_term : Problem → Term → Bool
+is_term problem term =
+    nat_lt term.input (length problem.inputs)
+    && nat_lt term.winner (length (classes_at problem term.input))
+    && nat_lt term.loser (length (classes_at problem term.input))
+    && not (term.loser == term.winner)
+
+-- the two terms are of different inputs, or have the same winner
+abbrev pub agree : Term → Term → Bool
+agree s t = not (s.input == t.input) || (s.winner == t.winner)
+
+-- A contradiction of a problem: some of its terms, with one winner for each input, whose conditions fuse to an L and no W.
+unfoldable pub is_contradiction : Problem → List Term → Bool
+is_contradiction problem terms =
+    not (length terms == 0)
+    && list_all (is_term problem) terms
+    && list_all (λ s. list_all (agree s) terms) terms
+    && is_contradictory (fusion problem.constraints (map (condition_of problem) terms))
+
+-- It refutes a prefix that makes each of its winner choices.
+abbrev pub refutes : List Term → List ℕ → Bool
+refutes terms prefix = list_all (λ term. option_map_or (λ a. a == term.winner) (slice_get prefix term.input) false) terms
+
+-- all prefixes of choices, in lexicographic order
+unfoldable pub prefixes : List Input → List (List ℕ)
+prefixes [] = [] ∷ []
+prefixes (input ∷ inputs) = [] ∷ flat_map (λ a. map (λ rest. a ∷ rest) (prefixes inputs)) (numbers_below (length input.classes))
+
+-- The cuts: the refuted prefixes none of whose proper prefixes is refuted.
+unfoldable pub cuts : Problem → List (List ℕ)
+cuts problem =
+    filter (λ prefix. refuted problem prefix && not (list_any (λ k. refuted problem (take k prefix)) (numbers_below (length prefix)))) (prefixes problem.inputs)
+
+-- What is kept of terms that are walked from the last to the first, behind those before them: each is dropped without
+-- which the rest is still hopeless.
+abbrev pub kept_of : (List Term → Bool) → List Term → List Term → List Term
+kept_of hopeless before [] = []
+kept_of hopeless before (term ∷ terms) =
+    let kept = kept_of hopeless (before ++ term ∷ []) terms in
+    if hopeless (before ++ kept) then kept else term ∷ kept
+
+-- the certificate of terms that no ranking keeps
+unfoldable pub certificate_of : Problem → List Term → List Term
+certificate_of problem terms = kept_of (λ rest. no_ranking_keeps problem.constraints (map (condition_of problem) rest)) [] terms
+
+-- the certificates so far, and that of a cut which none of them refutes
+abbrev pub with_certificate : Problem → List (List Term) → List ℕ → List (List Term)
+with_certificate problem certificates cut =
+    if list_any (λ terms. refutes terms cut) certificates
+    then certificates
+    else certificates ++ certificate_of problem (terms_of problem cut) ∷ []
+
+-- the certificates of all cuts, in order
+unfoldable pub certificates : Problem → List (List Term)
+certificates problem = fold (with_certificate problem) [] (cuts problem)
+
+-- the place of the certificate that a cut names: the first that refutes it
+abbrev pub certificate_named : Problem → List ℕ → ℕ
+certificate_named problem cut = position_or_len (λ terms. refutes terms cut) (certificates problem)
