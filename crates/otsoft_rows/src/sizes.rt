@@ -1,0 +1,102 @@
+use crate::outside::{Left, Outside, run_on};
+use otsoft_run::Status;
+use std::alloc::{AllocError, Global};
+use std::test::Fail;
+
+/// A strict file of as many inputs, each with a class for each of two constraints.
+fn two_classes(alloc: Global, inputs: usize) -> Result<String, AllocError> {
+    let mut file = String::from_str(alloc, "\t\t\tA\tB\n\t\t\tA\tB\n")?;
+    for k in 1..=inputs {
+        write!(file, "i{k}\tp\t1\t1\t0\n\tq\t0\t0\t1\n")?;
+    }
+    Ok(file)
+}
+
+/// Its report: where B stands above A each input has its first class, else its second.
+fn two_languages(alloc: Global, inputs: usize) -> Result<String, AllocError> {
+    let mut report = String::from_str(alloc, "otsoft report 1\ttypology\nconstraints\t2\nconstraint\t1\tA\tA\nconstraint\t2\tB\tB\n")?;
+    write!(report, "inputs\t{inputs}\n")?;
+    for k in 1..=inputs {
+        write!(report, "input\t{k}\ti{k}\t2\nclass\t{k}.1\t1 0\tp\nclass\t{k}.2\t0 1\tq\n")?;
+    }
+    report.push_str("languages\t2\n")?;
+    for (class, hierarchy) in [(1, "2 | 1"), (2, "1 | 2")] {
+        write!(report, "language\t{class}\t{class}")?;
+        for _ in 1..inputs {
+            write!(report, " {class}")?;
+        }
+        write!(report, "\t{hierarchy}\n")?;
+    }
+    report.push_str("end\n")?;
+    Ok(report)
+}
+
+fn typology_of(alloc: Global, file: &str) -> Result<Left, erc_vectors::NoMemory> {
+    run_on(alloc, &["typology", "a.txt"], &Outside::sound("a.txt", file.as_bytes()))
+}
+
+/// Sixteen inputs of two classes have 65,536 choices, all of which are tried, and seventeen have too many.
+#[test]
+fn the_greatest_number_of_choices(rt: HostRuntime) -> Result<(), Fail> {
+    let alloc = rt.alloc();
+    let file = two_classes(alloc, 16)?;
+    let left = typology_of(alloc, file.as_str())?;
+    assert_eq!(rt; left.status, Status::Done);
+    assert!(rt; left.out.written() == two_languages(alloc, 16)?.as_bytes());
+    let file = two_classes(alloc, 17)?;
+    let left = typology_of(alloc, file.as_str())?;
+    assert_eq!(rt; left.status, Status::Refused);
+    assert!(rt; left.out.written().is_empty());
+    assert!(rt; left.err.written() == b"a.txt:1: F0 NotYet\n".as_slice());
+    Ok(())
+}
+
+/// A strict file of one candidate with a long text.
+fn long_text(alloc: Global, length: usize) -> Result<String, AllocError> {
+    let mut file = String::from_str(alloc, "\t\t\tA\n\t\t\tA\n")?;
+    for _ in 0..length {
+        file.push('x')?;
+    }
+    file.push_str("\tp\t1\t0\n")?;
+    Ok(file)
+}
+
+/// All that is left of a report is offered at once: a report of more than 64 KiB needs one write.
+#[test]
+fn a_long_report_is_one_write(rt: HostRuntime) -> Result<(), Fail> {
+    let alloc = rt.alloc();
+    let file = long_text(alloc, 70_000)?;
+    let left = run_on(
+        alloc,
+        &["typology", "a.txt"],
+        &Outside {
+            room: 1 << 20,
+            write_fails: &[2],
+            ..Outside::sound("a.txt", file.as_bytes())
+        },
+    )?;
+    assert_eq!(rt; left.status, Status::Done);
+    assert!(rt; left.out.written().len() > 70_000);
+    Ok(())
+}
+
+/// A read asks for 65,536 bytes, and a file is read to its end: one of 65,537 bytes takes an open and three reads.
+#[test]
+fn a_file_is_read_to_its_end(rt: HostRuntime) -> Result<(), Fail> {
+    let alloc = rt.alloc();
+    let file = long_text(alloc, 65_520)?;
+    assert_eq!(rt; file.len(), 65_537);
+    for (call, status) in [(4, Status::ReadFault), (5, Status::Done)] {
+        let left = run_on(
+            alloc,
+            &["typology", "a.txt"],
+            &Outside {
+                room: 1 << 20,
+                read_fails: &[call],
+                ..Outside::sound("a.txt", file.as_bytes())
+            },
+        )?;
+        assert_eq!(rt; left.status, status, "call {call}");
+    }
+    Ok(())
+}
