@@ -1,6 +1,6 @@
 -- Demotion in rounds gives the least hierarchy, or shows that no ranking keeps the conditions.
 use Rattle.std.proofs.Common.{◌≡◌, ◌≢◌, ◌⊎◌, ℕ, zero, suc, ◌+◌, ◌<◌, ◌≤◌, List, [], Bool, true, false, not, ◌&&◌, ◌==◌, arith, sym, ◌∙◌, ap, inl, inr, length, slice_index, get_or}
-use Rattle.std.specs.Prelude.{All, nat_lt}
+use Rattle.std.specs.Prelude.{All, Contains, EachIndex, slice_index_or, nat_lt}
 use Rattle.std.specs.List.{list_all, list_any}
 use Rattle.std.proofs.lemmas.Bool.{ltb-true, lt-ltb, cases_lt, and_parts, and_from, not-true, cases_Bool}
 use Rattle.std.proofs.lemmas.Bool.Decides.{eqb_tells, leb_tells, nat_tests}
@@ -9,13 +9,14 @@ use Rattle.std.proofs.lemmas.List.Folds.{Any-from_list_any, list_any_at}
 use Rattle.std.proofs.lemmas.List.Sums.{AllPass-from_list_all}
 use Rattle.ot_theory.specs.declared.Mark.{Mark}
 use Rattle.ot_theory.specs.declared.Mark.TheVariants.{W, L, E}
-use Rattle.ot_theory.specs.Rankings.{IsRanking, rankings}
+use Rattle.ot_theory.specs.Rankings.{count_of, IsRanking, rankings}
 use Rattle.ot_theory.specs.Conditions.{keeps, mark_at, is_win, is_loss}
 use Rattle.ot_theory.specs.Hierarchies.{Satisfies, IsLeastHierarchy}
 use Rattle.ot_theory.specs.Demotion.{is_closed, is_blocked, level_after}
 use Rattle.ot_theory.specs.Refutations.{no_ranking_keeps}
-use Rattle.ot_theory.proofs.Enumeration.{ranking-found, ranking-within}
+use Rattle.ot_theory.proofs.Enumeration.{counted, ranking-found, ranking-within}
 use Rattle.ot_theory.proofs.Strata.{any-range, range-any, mark_at-within, place_of, below-wins, WinAbove, satisfied-WinAbove, is_win-true, is_loss-true}
+use Rattle.ot_theory.proofs.Orders.{kept-satisfied}
 use Rattle.ot_theory.proofs.Hopeless.{guarded-keeps}
 
 -- a constraint with W that is placed
@@ -57,32 +58,46 @@ pub record AreRounds (n : ℕ) (set : List (List Mark)) (r : ℕ) (levels : List
   pub later : (other : List ℕ) → Satisfies n set other → (c : ℕ) → c < n → slice_index levels c ≡ 0 → r < slice_index other c
   pub guarded : All (λ marks. (d : ℕ) → mark_at marks d ≡ L → 0 < slice_index levels d → (w : PlacedWin levels marks) × (slice_index levels w.it < slice_index levels d)) set
 
-pub AreRounds-none : (n : ℕ) (set : List (List Mark)) (levels : List ℕ) → length levels ≡ n → ((c : ℕ) → slice_index levels c ≡ 0) → AreRounds n set 0 levels
-AreRounds-none n set levels width none = record {
+pub AreRounds-none : (n : ℕ) (set : List (List Mark)) (levels : List ℕ) → length levels ≡ n → All (λ level. level ≡ 0) levels → AreRounds n set 0 levels
+AreRounds-none n set levels width unplaced = record {
   width = width;
   within = λ c. omega (arith, none c);
   least = λ other s c. omega (arith, none c);
   later = λ other s c below e. s.from_one c 0 (omega (arith, s.width));
   guarded = λ k m b d loss placed. absurd (omega (arith, none d));
 }
+  where
+    none : (c : ℕ) → slice_index levels c ≡ 0
+    none c = elim (cases_lt c (length levels)) [ inl below ↦ unplaced c 0 below | inr past ↦ get_or_past levels c 0 past ]
+
+-- a round: the free ones of the constraints that are not placed get this number
+pub record IsRound (set : List (List Mark)) (given : ℕ) (old new : List ℕ) : Type 0 where
+  pub same : length new ≡ length old
+  pub each : (c : ℕ) → c < length new → slice_index new c ≡ level_after (slice_index old c) (is_blocked old set c) given
+
+pub IsRound-from : (set : List (List Mark)) (given : ℕ) (old new : List ℕ) (blocked : List Bool) → length new ≡ length old → EachIndex old (λ c. slice_index_or blocked c false ≡ is_blocked old set c) → EachIndex new (λ c. slice_index new c ≡ level_after (slice_index old c) (slice_index_or blocked c false) given) → IsRound set given old new
+IsRound-from set given old new blocked same marked each = record {
+  same = same;
+  each = λ c below. each c below ∙ ap (λ (b : Bool). level_after (slice_index old c) b given) (marked c (omega arith));
+}
 
 -- what a round does to a constraint
-data Change (n : ℕ) (set : List (List Mark)) (given : ℕ) (old new : List ℕ) (c : ℕ) : Type 0 where
-  Kept : 0 < slice_index old c → slice_index new c ≡ slice_index old c → Change n set given old new c
-  Given : c < n → slice_index old c ≡ 0 → is_blocked old set c ≡ false → slice_index new c ≡ given → Change n set given old new c
-  Left : slice_index old c ≡ 0 → is_blocked old set c ≡ true → slice_index new c ≡ 0 → Change n set given old new c
-  Past : n ≤ c → slice_index new c ≡ 0 → Change n set given old new c
+data Change (set : List (List Mark)) (given : ℕ) (old new : List ℕ) (c : ℕ) : Type 0 where
+  Kept : 0 < slice_index old c → slice_index new c ≡ slice_index old c → Change set given old new c
+  Given : c < length new → slice_index old c ≡ 0 → is_blocked old set c ≡ false → slice_index new c ≡ given → Change set given old new c
+  Left : slice_index old c ≡ 0 → is_blocked old set c ≡ true → slice_index new c ≡ 0 → Change set given old new c
+  Past : length new ≤ c → slice_index new c ≡ 0 → Change set given old new c
 
-level_kept : (level given : ℕ) (blocked : Bool) → level ≢ 0 → level_after level blocked given ≡ level
+pub level_kept : (level given : ℕ) (blocked : Bool) → level ≢ 0 → level_after level blocked given ≡ level
 level_kept level given blocked h = grind (arith, nat_tests)
 
-change_of : (n : ℕ) (set : List (List Mark)) (given : ℕ) (old new : List ℕ) → length new ≡ n → ((c : ℕ) → c < n → slice_index new c ≡ level_after (slice_index old c) (is_blocked old set c) given) → (c : ℕ) → Change n set given old new c
-change_of n set given old new width each c = elim (leb_tells n c) [
-  | inl past ↦ Past past.1 (get_or_past new c 0 (omega (arith, past.1)))
-  | inr below ↦ by below.1 (each c below.1) (eqb_tells (slice_index old c) 0) (cases_Bool (is_blocked old set c))
+change_of : (set : List (List Mark)) (given : ℕ) (old new : List ℕ) → IsRound set given old new → (c : ℕ) → Change set given old new c
+change_of set given old new round c = elim (leb_tells (length new) c) [
+  | inl past ↦ Past past.1 (get_or_past new c 0 past.1)
+  | inr below ↦ by below.1 (round.each c below.1) (eqb_tells (slice_index old c) 0) (cases_Bool (is_blocked old set c))
 ]
   where
-    by : c < n → slice_index new c ≡ level_after (slice_index old c) (is_blocked old set c) given → ((slice_index old c == 0) ≡ true) × (slice_index old c ≡ 0) ⊎ ((slice_index old c == 0) ≡ false) × (slice_index old c ≢ 0) → (is_blocked old set c ≡ true) ⊎ (is_blocked old set c ≡ false) → Change n set given old new c
+    by : c < length new → slice_index new c ≡ level_after (slice_index old c) (is_blocked old set c) given → ((slice_index old c == 0) ≡ true) × (slice_index old c ≡ 0) ⊎ ((slice_index old c == 0) ≡ false) × (slice_index old c ≢ 0) → (is_blocked old set c ≡ true) ⊎ (is_blocked old set c ≡ false) → Change set given old new c
     by below e (inr other) b = Kept (omega (arith, other.1)) (e ∙ level_kept _ _ _ other.1)
     by below e (inl none) (inl blocked) = Left none.1 blocked (rw (none.1, blocked) at e)
     by below e (inl none) (inr free) = Given below none.1 free (rw (none.1, free) at e)
@@ -114,22 +129,22 @@ free-closed levels set c k d b free loss = elim (cases_Bool (is_closed levels (g
       absurd (cc)
 ]
 
-pub AreRounds-more : (n : ℕ) (set : List (List Mark)) (r : ℕ) (old new : List ℕ) → All (λ marks. length marks ≡ n) set → length new ≡ length old → ((c : ℕ) → c < n → slice_index new c ≡ level_after (slice_index old c) (is_blocked old set c) (r + 1)) → AreRounds n set r old → AreRounds n set (r + 1) new
-AreRounds-more n set r old new widths same each h = record {
-  width = width;
-  within = λ c. elim (change_of n set (r + 1) old new width each c) [
+pub AreRounds-more : (n : ℕ) (set : List (List Mark)) (r : ℕ) (old new : List ℕ) → All (λ marks. length marks ≡ n) set → IsRound set (r + 1) old new → AreRounds n set r old → AreRounds n set (r + 1) new
+AreRounds-more n set r old new widths round h = record {
+  width = round.same ∙ h.width;
+  within = λ c. elim (change c) [
     | Kept p e ↦ omega (arith, e, h.within c)
     | Given below z f e ↦ omega (arith, e)
     | Left z b e ↦ omega (arith, e)
     | Past p e ↦ omega (arith, e)
   ];
-  least = λ other s c. elim (change_of n set (r + 1) old new width each c) [
+  least = λ other s c. elim (change c) [
     | Kept p e ↦ omega (arith, e, h.least other s c)
-    | Given below z f e ↦ omega (arith, e, h.later other s c below z)
+    | Given below z f e ↦ omega (arith, e, h.later other s c (omega (arith, round.same, h.width)) z)
     | Left z b e ↦ omega (arith, e)
     | Past p e ↦ omega (arith, e)
   ];
-  later = λ other s c below none. elim (change_of n set (r + 1) old new width each c) [
+  later = λ other s c below none. elim (change c) [
     | Kept p e ↦ absurd (omega arith)
     | Given below z f e ↦ absurd (omega arith)
     | Left z b e ↦
@@ -138,7 +153,7 @@ AreRounds-more n set r old new widths same each h = record {
         (λ w win. omega (arith, h.later other s w (omega (arith, mark_at-within (get_or set o.at []) w (λ even. let no : W ≡ E = sym win ∙ even in cc), widths o.at [] o.within)) (open-unplaced old (get_or set o.at []) w o.opened win)))
     | Past p e ↦ absurd (omega arith)
   ];
-  guarded = λ k m b d loss placed. elim (change_of n set (r + 1) old new width each d) [
+  guarded = λ k m b d loss placed. elim (change d) [
     | Kept p e ↦ let g = h.guarded k m b d loss p in (moved (get_or set k m) g.0, omega (arith, g.1, e, kept g.0.it g.0.placed))
     | Given below z f e ↦
         let w = closed-placed old (get_or set k m) (free-closed old set d k m b f loss) in
@@ -148,15 +163,15 @@ AreRounds-more n set r old new widths same each h = record {
   ];
 }
   where
-    width : length new ≡ n
-    width = same ∙ h.width
+    change : (c : ℕ) → Change set (r + 1) old new c
+    change = change_of set (r + 1) old new round
 
     kept : (c : ℕ) → 0 < slice_index old c → slice_index new c ≡ slice_index old c
-    kept c placed = elim (change_of n set (r + 1) old new width each c) [
+    kept c placed = elim (change c) [
       | Kept p e ↦ e
       | Given below z f e ↦ absurd (omega arith)
       | Left z b e ↦ absurd (omega arith)
-      | Past p e ↦ absurd (omega (arith, get_or_past old c 0 (omega (arith, h.width))))
+      | Past p e ↦ absurd (omega (arith, get_or_past old c 0 (omega (arith, round.same))))
     ]
 
     moved : (marks : List Mark) → PlacedWin old marks → PlacedWin new marks
@@ -179,6 +194,11 @@ IsLeastHierarchy-rounds n set r levels widths h all = record {
         let w = g (all c 0 (omega (arith, h.width))) in
         record { it = w.0.it; within = w.0.within; win = w.0.win; above = w.1 }
 
+pub ranked-rounds : (n : ℕ) (set : List (List Mark)) (r : ℕ) (levels : List ℕ) → All (λ marks. length marks ≡ n) set → AreRounds n set r levels → All (λ level. 1 ≤ level) levels → (no_ranking_keeps n set ≡ false) × IsLeastHierarchy n set levels
+ranked-rounds n set r levels widths h all =
+    let least = IsLeastHierarchy-rounds n set r levels widths h all in
+    (kept-satisfied n set levels widths least.satisfying, least)
+
 -- Where each constraint that is not placed is blocked, and there is one, no ranking keeps the conditions.
 pub hopeless-blocked : (n : ℕ) (set : List (List Mark)) (levels : List ℕ) (c : ℕ) → c < n → slice_index levels c ≡ 0 → ((d : ℕ) → d < n → slice_index levels d ≡ 0 → is_blocked levels set d ≡ true) → no_ranking_keeps n set ≡ true
 unfolding no_ranking_keeps
@@ -200,3 +220,18 @@ hopeless-blocked n set levels c below none blocked = elim (cases_Bool (list_any 
           let w = guarded-keeps order (get_or set o.at []) (AllPass-from_list_all (keeps order) set kept o.at [] o.within) k b o.loss in
           absurd (omega (arith, w.before, open-unplaced levels (get_or set o.at []) (get_or order w.at 0) o.opened w.win, all_placed order r kept m w.at (omega (arith, w.before)) (omega (arith, w.before))))
     ]
+
+-- the same, where a round placed nothing
+pub hopeless-idle : (n : ℕ) (set : List (List Mark)) (given : ℕ) (old new : List ℕ) → length old ≡ n → 0 < given → IsRound set given old new → new ≡ old → Contains new 0 → no_ranking_keeps n set ≡ true
+hopeless-idle n set given old new width some round same h =
+    hopeless-blocked n set old h.0 (omega (arith, h.1, round.same)) (ap (λ (levels : List ℕ). slice_index levels h.0) (sym same) ∙ h.2) (λ d below none. elim (change_of set given old new round d) [
+      | Kept p e ↦ absurd (omega arith)
+      | Given within z free e ↦ absurd (omega (arith, ap (λ (levels : List ℕ). slice_index levels d) same))
+      | Left z blocked e ↦ blocked
+      | Past p e ↦ absurd (omega (arith, round.same))
+    ])
+
+pub counted-none : (levels : List ℕ) → count_of 0 levels ≡ 0 → Contains levels 0 → ⊥
+counted-none levels e h =
+    let some : 0 < count_of 0 levels = rw h.2 at (counted levels h.0 0 h.1) in
+    absurd (omega arith)
