@@ -1,12 +1,10 @@
 -- Worked examples: the definitions computed on small problems.
 use Rattle.std.proofs.Common.{◌≡◌, ℕ, List, [], ◌∷◌, map, refl}
-use Rattle.std.specs.Prelude.{Bool, true, false, None, Some}
-use Rattle.ot_theory.specs.declared.Mark.{Mark}
+use Rattle.std.specs.Prelude.{true}
 use Rattle.ot_theory.specs.declared.Mark.TheVariants.{W, L, E}
 use Rattle.ot_theory.specs.Rankings.{rankings, put_somewhere}
-use Rattle.ot_theory.specs.Conditions.{condition, fusion, keeps}
 use Rattle.ot_theory.specs.Hierarchies.{satisfies}
-use Rattle.ot_theory.specs.Problems.{Problem, Input, input_of}
+use Rattle.ot_theory.specs.Problems.{Problem, input_of}
 use Rattle.ot_theory.specs.Languages.{languages, choices, refuted, conditions_of, Term}
 use Rattle.ot_theory.specs.Refutations.{certificates, certificate_named, cuts, prefixes, no_ranking_keeps, certificate_of}
 
@@ -45,7 +43,7 @@ pub cuts_of_two_inputs : cuts two_inputs ≡ (0 ∷ 1 ∷ []) ∷ (0 ∷ 2 ∷ [
 unfolding rankings put_somewhere refuted prefixes cuts
 cuts_of_two_inputs = refl
 
-pub certificates_of_two_inputs : certificates two_inputs ≡ 
+pub certificates_of_two_inputs : certificates two_inputs ≡
     (t 0 0 1 ∷ t 1 1 0 ∷ []) ∷ (t 0 0 2 ∷ t 1 2 0 ∷ []) ∷ (t 0 1 0 ∷ t 1 0 1 ∷ [])
     ∷ (t 0 1 2 ∷ t 1 2 1 ∷ []) ∷ (t 0 2 0 ∷ t 1 0 2 ∷ []) ∷ (t 0 2 1 ∷ t 1 1 2 ∷ []) ∷ []
 unfolding rankings put_somewhere refuted prefixes cuts no_ranking_keeps certificate_of certificates
