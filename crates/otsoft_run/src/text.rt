@@ -53,13 +53,18 @@ impl Text {
         self.put(digits.as_bytes())
     }
 
-    /// A number with a space before it, unless it is the first of its list.
+    /// What stands before an item of a list, unless it is the first.
+    pub(crate) fn separator(&mut self, first: bool, bytes: &[u8]) -> Result<(), NoMemory>
+        ensures { OnOk result (self.new ≡ self.old ++ (if first then [] else bytes.now)) }
+    {
+        if first { Ok(()) } else { self.put(bytes) }
+    }
+
+    /// A number of a list with a space between each two.
     pub(crate) fn spaced_number(&mut self, first: bool, n: usize) -> Result<(), NoMemory>
         ensures { OnOk result (self.new ≡ self.old ++ ((if first then [] else 32 ∷ []) ++ decimal n)) }
     {
-        if !first {
-            self.put(b" ")?;
-        }
+        self.separator(first, b" ")?;
         self.number(n)
     }
 
