@@ -1,0 +1,100 @@
+//! The report of a factorial typology as text.
+
+ghost use Rattle.std.specs.Prelude.{◌≡◌, ◌∷◌, [], ◌++◌, length, codes, decimal, fold, map, max, IfOk, OnOk};
+ghost use Rattle.ot_base.specs.Tableaus.{problem_of};
+ghost use Rattle.otsoft_run.specs.Found.{found_of};
+ghost use Rattle.otsoft_run.specs.Reports as reports;
+ghost use Rattle.otsoft_run.specs.Spelling.{line, spaced, stratum, hierarchy, prefix};
+
+use crate::head::put_head;
+use crate::language::Language;
+use crate::problem::Problem;
+use crate::text::Text;
+use erc_vectors::{ConId, NoMemory, Strata};
+use ot_base::{ClassId, Tableau};
+use std::alloc::Global;
+
+/// The report of the languages that were found.
+pub(crate) fn typology_text(
+    alloc: Global,
+    tableau: &Tableau,
+    problem: &Problem,
+    found: &[Language],
+) -> Result<Text, NoMemory>
+    requires { problem.now ≡ problem_of tableau.now }
+    ensures { IfOk result (λ text. text ≡ reports.typology_report tableau.now problem.now (found_of found.now)) }
+{
+    let mut text = Text::new(alloc);
+    put_head(&mut text, b"typology", tableau, problem)?;
+    put_languages(&mut text, found)?;
+    text.put(b"end\n")?;
+    Ok(text)
+}
+
+fn put_languages(text: &mut Text, found: &[Language]) -> Result<(), NoMemory>
+    ensures { OnOk result (text.new ≡ text.old ++ reports.language_lines (found_of found.now)) }
+{
+    text.count_line(b"languages", found.len())?;
+    for (k, language) in found.iter().enumerate() {
+        put_language(text, k + 1, language)?;
+    }
+    Ok(())
+}
+
+fn put_language(text: &mut Text, number: usize, language: &Language) -> Result<(), NoMemory>
+    ensures { OnOk result (text.new ≡ text.old
+        ++ line (codes "language" ∷ decimal number ∷ prefix (map (λ class. class.0) language.now.choice) ∷ hierarchy language.now.strata ∷ [])) }
+{
+    text.put(b"language")?;
+    text.number_field(number)?;
+    text.put(b"\t")?;
+    put_prefix(text, language.choice.as_slice())?;
+    text.put(b"\t")?;
+    put_hierarchy(text, &language.strata)?;
+    text.end_line()
+}
+
+fn put_prefix(text: &mut Text, classes: &[ClassId]) -> Result<(), NoMemory>
+    ensures { OnOk result (text.new ≡ text.old ++ prefix (map (λ class. class.0) classes.now)) }
+{
+    if classes.is_empty() {
+        return text.put(b"-");
+    }
+    for (k, class) in classes.iter().enumerate() {
+        text.spaced_number(k == 0, class.0 as usize + 1)?;
+    }
+    Ok(())
+}
+
+fn put_hierarchy(text: &mut Text, strata: &Strata) -> Result<(), NoMemory>
+    ensures { OnOk result (text.new ≡ text.old ++ hierarchy strata.now) }
+{
+    for above in 0..greatest_level(strata) {
+        text.separator(above == 0, b" | ")?;
+        put_stratum(text, strata, above + 1)?;
+    }
+    Ok(())
+}
+
+fn greatest_level(strata: &Strata) -> u8
+    ensures { result ≡ fold max 0 strata.now }
+{
+    let mut greatest = 0;
+    for c in 0..strata.width() {
+        greatest = greatest.max(strata.level(ConId(c as u16)));
+    }
+    greatest
+}
+
+fn put_stratum(text: &mut Text, strata: &Strata, level: u8) -> Result<(), NoMemory>
+    ensures { OnOk result (text.new ≡ text.old ++ spaced (stratum strata.now level)) }
+{
+    let mut first = true;
+    for c in 0..strata.width() {
+        if strata.level(ConId(c as u16)) == level {
+            text.spaced_number(first, c + 1)?;
+            first = false;
+        }
+    }
+    Ok(())
+}
