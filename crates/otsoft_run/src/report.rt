@@ -5,15 +5,23 @@ ghost use Rattle.otsoft_run.specs.declared.judging.TheConstants.{CHOICE_LIMIT};
 ghost use Rattle.otsoft_run.specs.Answers.{IsTypologyReport};
 
 use crate::judging::Posed;
+use crate::languages::languages_of;
+use crate::text::Text;
+use crate::typology_text::typology_text;
 use erc_vectors::NoMemory;
-use ot_base::Label;
 use std::alloc::Global;
 
 /// The report of the languages of a tableau.
-pub(crate) fn typology_report(alloc: Global, posed: &Posed) -> Result<Label, NoMemory>
+pub(crate) fn typology_report(alloc: Global, posed: &Posed) -> Result<Text, NoMemory>
     requires poses { posed.now.problem ≡ problem_of posed.now.tableau }
     requires few { choice_count posed.now.problem.inputs ≤ CHOICE_LIMIT }
     ensures { IfOk result (λ report. IsTypologyReport posed.now report) }
 {
-    Err(NoMemory)
+    let found = languages_of(alloc, &posed.problem)?;
+    typology_text(
+        alloc,
+        &posed.tableau,
+        &posed.problem,
+        found.as_slice(),
+    )
 }
