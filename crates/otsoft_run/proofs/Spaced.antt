@@ -22,7 +22,7 @@ spaced-push : (numbers : List ℕ) (n : ℕ) → spaced (numbers ++ n ∷ []) �
 spaced-push [] n = refl
 spaced-push (m ∷ numbers) n =
     let one : flat_map (λ y. 32 ∷ y) (map decimal (numbers ++ n ∷ [])) ≡ flat_map (λ y. 32 ∷ y) (map decimal numbers) ++ (32 ∷ decimal n) =
-        rw (map_push decimal numbers n, flat_map-append, append-nil) refl
+    rw (map_push decimal numbers n, flat_map-append, append-nil) refl
     in
     rw (join-cons 32 (decimal m) (map decimal (numbers ++ n ∷ [])), join-cons 32 (decimal m) (map decimal numbers), one) (sym (append_assoc (decimal m) _ _))
 

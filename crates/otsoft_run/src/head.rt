@@ -11,6 +11,7 @@ use crate::text::Text;
 use erc_vectors::NoMemory;
 use ot_base::{ClassId, InId, InputRows, Label, Tableau};
 
+/// Everything before the part that is the command's own.
 pub(crate) fn put_head(
     text: &mut Text,
     command: &[u8],
@@ -37,6 +38,7 @@ fn put_title(text: &mut Text, command: &[u8]) -> Result<(), NoMemory>
     text.end_line()
 }
 
+/// The number of constraints, and a line for each.
 fn put_constraints(text: &mut Text, tableau: &Tableau) -> Result<(), NoMemory>
     ensures { OnOk result (text.new ≡ text.old ++ reports.constraint_lines tableau.now) }
 {
@@ -49,7 +51,13 @@ fn put_constraints(text: &mut Text, tableau: &Tableau) -> Result<(), NoMemory>
     Ok(())
 }
 
-fn put_constraint(text: &mut Text, number: usize, abbreviation: &Label, name: &Label) -> Result<(), NoMemory>
+/// The line of a constraint: its number, its abbreviation and its name.
+fn put_constraint(
+    text: &mut Text,
+    number: usize,
+    abbreviation: &Label,
+    name: &Label,
+) -> Result<(), NoMemory>
     ensures { OnOk result (text.new ≡ text.old ++ line (codes "constraint" ∷ decimal number ∷ abbreviation.now ∷ name.now ∷ [])) }
 {
     text.put(b"constraint")?;
@@ -59,6 +67,7 @@ fn put_constraint(text: &mut Text, number: usize, abbreviation: &Label, name: &L
     text.end_line()
 }
 
+/// The line of an input, and those of its classes.
 fn put_input(text: &mut Text, i: InId, rows: &InputRows, problem: &Problem) -> Result<(), NoMemory>
     requires { i.0 < length problem.now.inputs }
     ensures { OnOk result ((input : Input) → slice_get problem.now.inputs i.0 ≡ Some input
@@ -72,12 +81,20 @@ fn put_input(text: &mut Text, i: InId, rows: &InputRows, problem: &Problem) -> R
     text.number_field(classes)?;
     text.end_line()?;
     for a in 0..classes {
-        put_class(text, number, rows, a + 1, problem.profile(i, ClassId(a as u16)))?;
+        let profile = problem.profile(i, ClassId(a as u16));
+        put_class(text, number, rows, a + 1, profile)?;
     }
     Ok(())
 }
 
-fn put_class(text: &mut Text, i: usize, rows: &InputRows, a: usize, profile: &[u32]) -> Result<(), NoMemory>
+/// The line of a class: its numbers, its profile, and the texts of its members.
+fn put_class(
+    text: &mut Text,
+    i: usize,
+    rows: &InputRows,
+    a: usize,
+    profile: &[u32],
+) -> Result<(), NoMemory>
     ensures { OnOk result (text.new ≡ text.old ++ reports.class_line i rows.now a profile.now) }
 {
     text.put(b"class")?;
@@ -90,6 +107,7 @@ fn put_class(text: &mut Text, i: usize, rows: &InputRows, a: usize, profile: &[u
     text.end_line()
 }
 
+/// Numbers with a space between each two.
 fn put_spaced(text: &mut Text, numbers: &[u32]) -> Result<(), NoMemory>
     ensures { OnOk result (text.new ≡ text.old ++ spaced numbers.now) }
 {
@@ -99,7 +117,7 @@ fn put_spaced(text: &mut Text, numbers: &[u32]) -> Result<(), NoMemory>
     Ok(())
 }
 
-/// The texts of the candidates with a profile, each as a field.
+/// The texts of the candidates with a profile, in file order, each as a field.
 fn put_members(text: &mut Text, rows: &InputRows, profile: &[u32]) -> Result<(), NoMemory>
     ensures { OnOk result (text.new ≡ text.old ++ flat_map (λ member. 9 ∷ member) (reports.members rows.now profile.now)) }
 {

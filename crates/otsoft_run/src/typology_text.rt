@@ -14,7 +14,7 @@ use erc_vectors::{ConId, NoMemory, Strata};
 use ot_base::{ClassId, Tableau};
 use std::alloc::Global;
 
-/// The report of the languages that were found.
+/// The whole report of the languages that were found, each with its hierarchy.
 pub(crate) fn typology_text(
     alloc: Global,
     tableau: &Tableau,
@@ -31,6 +31,7 @@ pub(crate) fn typology_text(
     Ok(text)
 }
 
+/// The number of languages, and a line for each.
 fn put_languages(text: &mut Text, found: &[Language]) -> Result<(), NoMemory>
     ensures { OnOk result (text.new ≡ text.old ++ reports.language_lines (found_of found.now)) }
 {
@@ -41,6 +42,7 @@ fn put_languages(text: &mut Text, found: &[Language]) -> Result<(), NoMemory>
     Ok(())
 }
 
+/// The line of a language: its number, its classes by input, and its hierarchy.
 fn put_language(text: &mut Text, number: usize, language: &Language) -> Result<(), NoMemory>
     ensures { OnOk result (text.new ≡ text.old
         ++ line (codes "language" ∷ decimal number ∷ prefix (map (λ class. class.0) language.now.choice) ∷ hierarchy language.now.strata ∷ [])) }
@@ -54,6 +56,7 @@ fn put_language(text: &mut Text, number: usize, language: &Language) -> Result<(
     text.end_line()
 }
 
+/// The numbers of classes, by input.
 fn put_prefix(text: &mut Text, classes: &[ClassId]) -> Result<(), NoMemory>
     ensures { OnOk result (text.new ≡ text.old ++ prefix (map (λ class. class.0) classes.now)) }
 {
@@ -66,6 +69,7 @@ fn put_prefix(text: &mut Text, classes: &[ClassId]) -> Result<(), NoMemory>
     Ok(())
 }
 
+/// The strata from the highest on, with a bar between each two.
 fn put_hierarchy(text: &mut Text, strata: &Strata) -> Result<(), NoMemory>
     ensures { OnOk result (text.new ≡ text.old ++ hierarchy strata.now) }
 {
@@ -76,6 +80,7 @@ fn put_hierarchy(text: &mut Text, strata: &Strata) -> Result<(), NoMemory>
     Ok(())
 }
 
+/// The number of the lowest stratum.
 fn greatest_level(strata: &Strata) -> u8
     ensures { result ≡ fold max 0 strata.now }
 {
@@ -86,6 +91,7 @@ fn greatest_level(strata: &Strata) -> u8
     greatest
 }
 
+/// The constraints of a stratum, ascending.
 fn put_stratum(text: &mut Text, strata: &Strata, level: u8) -> Result<(), NoMemory>
     ensures { OnOk result (text.new ≡ text.old ++ spaced (stratum strata.now level)) }
 {

@@ -8,7 +8,7 @@ use Rattle.otsoft_run.proofs.head.put_constraints.Goals as goal
 pub loop-k-preserved : goal.loop-k-preserved
 loop-k-preserved c =
     let e = numbered_pairs_more constraint_line c.as_slice-abbreviations.result.now c.as_slice-names.result.now c.loop-k.k c.index-abbreviations-k.result c.index-names-k.result
-        (omega arith) (omega arith) c.index-abbreviations-k.is c.index-names-k.is
+    (omega arith) (omega arith) c.index-abbreviations-k.is c.index-names-k.is
     in
     rw (e, c.in_ok-put_constraint.ensures, c.loop-k.invariant) (simp append_assoc)
 

@@ -27,10 +27,10 @@ loop-i-preserved c =
     let within : c.loop-i.i < length t.inputs = omega (arith, ap length c.as_slice-rows-items.ensures) in
     let long : length c.args.problem.now.inputs ≡ length t.inputs = rw c.requires (inputs-length t) in
     let there : slice_get c.args.problem.now.inputs c.loop-i.i ≡ Some (input_of_rows rows) =
-        rw c.requires (input_at t c.loop-i.i rows (slice_get_read t.inputs (length t.inputs) c.loop-i.i rows refl within here))
+    rw c.requires (input_at t c.loop-i.i rows (slice_get_read t.inputs (length t.inputs) c.loop-i.i rows refl within here))
     in
     let e = numbered_pairs_more input_lines t.inputs c.args.problem.now.inputs c.loop-i.i rows (input_of_rows rows)
-        within (omega arith) here (sym (get_or_from_slice_get c.args.problem.now.inputs c.loop-i.i (input_of_rows rows) (input_of_rows rows) there))
+    within (omega arith) here (sym (get_or_from_slice_get c.args.problem.now.inputs c.loop-i.i (input_of_rows rows) (input_of_rows rows) there))
     in
     rw (e, c.in_ok-put_input.ensures (input_of_rows rows) there, c.loop-i.invariant) (simp append_assoc)
 

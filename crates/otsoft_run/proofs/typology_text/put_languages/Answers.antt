@@ -12,7 +12,7 @@ loop-k-preserved c =
     let language = c.index-found-k.result in
     let shown : Language → List ℕ × List ℕ = λ language. (map (λ class. class.0) language.choice, language.strata) in
     let here : shown language ≡ get_or (found_of found) c.loop-k.k (shown language) =
-        ap shown c.index-found-k.is ∙ sym (get_or-map shown found c.loop-k.k language (shown language) (omega arith))
+    ap shown c.index-found-k.is ∙ sym (get_or-map shown found c.loop-k.k language (shown language) (omega arith))
     in
     let e = numbered_more language_line (found_of found) c.loop-k.k (shown language) (shown language) (omega (arith, length-map found shown)) here in
     rw (e, c.in_ok-put_language.ensures, c.loop-k.invariant) (simp append_assoc)
