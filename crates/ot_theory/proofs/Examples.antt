@@ -1,12 +1,10 @@
 -- Worked examples: the definitions computed on small problems.
 use Rattle.std.proofs.Common.{◌≡◌, ℕ, List, [], ◌∷◌, map, refl}
-use Rattle.std.specs.Prelude.{Bool, true, false, None, Some}
-use Rattle.ot_theory.specs.declared.Mark.{Mark}
+use Rattle.std.specs.Prelude.{true}
 use Rattle.ot_theory.specs.declared.Mark.TheVariants.{W, L, E}
 use Rattle.ot_theory.specs.Rankings.{rankings, put_somewhere}
-use Rattle.ot_theory.specs.Conditions.{condition, fusion, keeps}
 use Rattle.ot_theory.specs.Hierarchies.{satisfies}
-use Rattle.ot_theory.specs.Problems.{Problem, Input, input_of}
+use Rattle.ot_theory.specs.Problems.{Problem, input_of}
 use Rattle.ot_theory.specs.Languages.{languages, choices, refuted, conditions_of, Term}
 use Rattle.ot_theory.specs.Refutations.{certificates, certificate_named, cuts, prefixes, no_ranking_keeps, certificate_of}
 

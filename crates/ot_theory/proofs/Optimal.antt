@@ -1,14 +1,13 @@
 -- A class is optimal exactly where the ranking keeps its conditions over all other classes of its input.
-use Rattle.std.proofs.Common.{◌≡◌, ◌≢◌, ◌⊎◌, ℕ, zero, suc, ◌+◌, ◌-◌, ◌<◌, ◌≤◌, List, [], ◌∷◌, ◌++◌, Bool, true, false, not, ◌||◌, ◌&&◌, ◌==◌, arith, refl, sym, ◌∙◌, ap, cond, eqb, inl, inr, length, get_or, map, flat_map, slice_index, slice_index_or, drop, add-one}
-use Rattle.std.specs.Prelude.{filter, nat_lt, slice_get, Some, None, Option}
+use Rattle.std.proofs.Common.{◌≡◌, ◌≢◌, ℕ, zero, suc, ◌+◌, ◌<◌, ◌≤◌, List, [], ◌∷◌, ◌++◌, Bool, true, false, not, ◌||◌, ◌&&◌, ◌==◌, arith, refl, sym, ◌∙◌, ap, inl, inr, length, map, flat_map, slice_index, slice_index_or, drop, add-one}
+use Rattle.std.specs.Prelude.{filter, nat_lt, slice_get}
 use Rattle.std.specs.List.{range_with_len, list_all, list_any, enumerate_from}
 use Rattle.std.specs.Option.{option_map_or}
 use Rattle.std.proofs.lemmas.Bool.Decides.{eqb_tells, nat_tests}
-use Rattle.ot_theory.specs.declared.Mark.{Mark}
-use Rattle.ot_theory.specs.Rankings.{better, optimal, numbers_below, count_of, IsRanking, rankings}
+use Rattle.ot_theory.specs.Rankings.{better, optimal, numbers_below, IsRanking, rankings}
 use Rattle.ot_theory.specs.Conditions.{condition, keeps}
 use Rattle.ot_theory.specs.Problems.{Input, Problem}
-use Rattle.ot_theory.specs.Languages.{Term, classes_at, terms_of_class, terms_of, condition_of, conditions_of, each_optimal, holds, refuted}
+use Rattle.ot_theory.specs.Languages.{classes_at, terms_of_class, terms_of, condition_of, conditions_of, each_optimal, holds, refuted}
 use Rattle.ot_theory.specs.Refutations.{no_ranking_keeps}
 use Rattle.ot_theory.proofs.Enumeration.{any-ranking, ranking-found}
 use Rattle.ot_theory.proofs.Keeping.{better-keeps, first_difference}

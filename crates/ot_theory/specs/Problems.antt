@@ -1,5 +1,5 @@
 -- Problems: a number of constraints, and inputs whose candidates fall into classes of equal profiles.
-use Rattle.std.specs.Prelude.{ℕ, Bool, not, ◌&&◌, List, [], ◌∷◌, map, length, slice_index, slice_index_or, nat_lt, nat_le, nat_eq, filter, find, position, take, drop, Option, option_and_then}
+use Rattle.std.specs.Prelude.{ℕ, Bool, not, ◌&&◌, List, [], ◌∷◌, length, slice_index, slice_index_or, nat_lt, nat_le, nat_eq, filter, find, position, take, drop, Option, option_and_then}
 use Rattle.std.specs.List.{list_all}
 use Rattle.std.specs.Cmp.Lexicographic.{pointwise}
 use Rattle.ot_theory.specs.Rankings.{numbers_below}
