@@ -43,7 +43,7 @@ pub cuts_of_two_inputs : cuts two_inputs ≡ (0 ∷ 1 ∷ []) ∷ (0 ∷ 2 ∷ [
 unfolding rankings put_somewhere refuted prefixes cuts
 cuts_of_two_inputs = refl
 
-pub certificates_of_two_inputs : certificates two_inputs ≡ 
+pub certificates_of_two_inputs : certificates two_inputs ≡
     (t 0 0 1 ∷ t 1 1 0 ∷ []) ∷ (t 0 0 2 ∷ t 1 2 0 ∷ []) ∷ (t 0 1 0 ∷ t 1 0 1 ∷ [])
     ∷ (t 0 1 2 ∷ t 1 2 1 ∷ []) ∷ (t 0 2 0 ∷ t 1 0 2 ∷ []) ∷ (t 0 2 1 ∷ t 1 1 2 ∷ []) ∷ []
 unfolding rankings put_somewhere refuted prefixes cuts no_ranking_keeps certificate_of certificates

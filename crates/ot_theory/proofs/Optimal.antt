@@ -79,7 +79,7 @@ AllFit n [] (a ∷ prefix) = ⊥
 AllFit n (input ∷ inputs) (a ∷ prefix) = Fits n input a × AllFit n inputs prefix
 
 -- the classes of an input in a list, and none past its end
-abbrev classes_in : List Input → ℕ → List (List ℕ)
+abbrev pub classes_in : List Input → ℕ → List (List ℕ)
 classes_in inputs i = option_map_or (λ input. input.classes) (slice_get inputs i) []
 
 at_drop : (inputs : List Input) (i : ℕ) (input : Input) (rest : List Input) → drop i inputs ≡ input ∷ rest → classes_in inputs i ≡ input.classes

@@ -1,0 +1,27 @@
+-- Laws of the definitions.
+use Rattle.std.specs.Prelude.{◌≡◌, ℕ, ◌<◌, Bool, not, ◌==◌, List, [], length, slice_index_or, filter, All, Contains}
+use Rattle.std.specs.List.{list_all}
+use Rattle.ot_theory.specs.declared.Mark.{Mark}
+use Rattle.ot_theory.specs.Rankings.{numbers_below, IsRanking, rankings, optimal}
+use Rattle.ot_theory.specs.Conditions.{condition, keeps}
+use Rattle.ot_theory.specs.Hierarchies.{satisfies, satisfies_by_least}
+use Rattle.ot_theory.specs.Problems.{classes_of}
+
+-- The list of the rankings of n constraints holds each of them, and nothing else.
+abbrev pub HoldsRankings : ℕ → Type 0
+HoldsRankings n = ((order : List ℕ) → IsRanking n order → Contains (rankings n) order) × All (IsRanking n) (rankings n)
+
+-- A hierarchy satisfies a condition exactly where it does by the least strata of its W's and of its L's.
+abbrev pub IsSatisfiedByLeast : List ℕ → List Mark → Type 0
+IsSatisfiedByLeast levels marks = length levels ≡ length marks → satisfies levels marks ≡ satisfies_by_least levels marks
+
+-- the ranking keeps the conditions of a class over all other classes
+abbrev pub keeps_over_others : List ℕ → List (List ℕ) → ℕ → Bool
+keeps_over_others order classes a =
+    list_all (λ b. keeps order (condition (slice_index_or classes a []) (slice_index_or classes b []))) (filter (λ b. not (b == a)) (numbers_below (length classes)))
+
+-- Of the classes of an input's candidates, one is optimal exactly where the ranking keeps its conditions over all others.
+abbrev pub IsOptimalByConditions : ℕ → List ℕ → List (List ℕ) → ℕ → Type 0
+IsOptimalByConditions n order profiles a =
+    IsRanking n order → All (λ profile. length profile ≡ n) profiles → a < length (classes_of profiles)
+    → optimal order (classes_of profiles) a ≡ keeps_over_others order (classes_of profiles) a

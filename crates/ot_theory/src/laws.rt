@@ -1,0 +1,20 @@
+//! Laws of the definitions: each function's contract is a law, and its body is empty.
+
+ghost use Rattle.std.specs.Prelude.{ℕ, List};
+ghost use Rattle.ot_theory.specs.declared.Mark.{Mark};
+ghost use Rattle.ot_theory.specs.Laws.{HoldsRankings, IsSatisfiedByLeast, IsOptimalByConditions};
+
+/// The list of the rankings of n constraints holds each of them, and nothing else.
+pub fn rankings_are_all()
+    ensures { (n : ℕ) → HoldsRankings n }
+{}
+
+/// A hierarchy satisfies a condition with W and L exactly where the least stratum of its W's is above that of its L's.
+pub fn satisfied_by_least()
+    ensures { (levels : List ℕ) (marks : List Mark) → IsSatisfiedByLeast levels marks }
+{}
+
+/// Of the classes of an input's candidates, one is optimal exactly where the ranking keeps its conditions over all others.
+pub fn optimal_by_conditions()
+    ensures { (n : ℕ) (order : List ℕ) (profiles : List (List ℕ)) (a : ℕ) → IsOptimalByConditions n order profiles a }
+{}
