@@ -148,3 +148,8 @@ pub winner_of-class : (profiles classes : List (List ℕ)) (counts profile : Lis
     → slice_index_or profiles k [] ≡ profile → classes ≡ classes_of profiles → winner_of profiles counts ≡ position (same_profile profile) classes
 winner_of-class profiles classes counts profile k h at same =
     ap (option_and_then (λ k. position (same_profile (slice_index_or profiles k [])) (classes_of profiles))) h ∙ rw (at, same) refl
+
+-- Where there is a candidate, there is a class.
+pub some-classes_of : (profiles : List (List ℕ)) → 1 ≤ length profiles → 1 ≤ length (classes_of profiles)
+some-classes_of [] h = h
+some-classes_of (profile ∷ profiles) h = omega arith
