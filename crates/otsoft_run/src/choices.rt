@@ -1,11 +1,50 @@
-ghost use Rattle.std.specs.Prelude.{◌≡◌, ◌<◌, ◌≤◌, IfSome, IfNone};
-ghost use Rattle.ot_theory.specs.Languages.{choice_count};
+//! The choices of one class per input, by their numbers in lexicographic order.
+
+ghost use Rattle.std.specs.Prelude.{◌≡◌, ◌<◌, ◌≤◌, map, slice_index_or, [], IfOk, IfSome, IfNone};
+ghost use Rattle.ot_theory.specs.Languages.{choices, choice_count};
 
 use crate::problem::Problem;
+use erc_vectors::{List, NoMemory};
+use ot_base::{ClassId, InId};
+use std::alloc::Global;
 
+/// How many choices there are, and None where there are more than the limit.
 pub(crate) fn choice_count_within(problem: &Problem, limit: usize) -> Option<usize>
     ensures some { IfSome result (λ count. (count ≡ choice_count problem.now.inputs) × (count ≤ limit)) }
     ensures none { IfNone result (limit < choice_count problem.now.inputs) }
 {
-    None
+    if limit == 0 {
+        return None;
+    }
+    let mut count: usize = 1;
+    for i in 0..problem.inputs() {
+        count = match count.checked_mul(problem.classes(InId(i as u32))) {
+            Some(product) if product <= limit => product,
+            _ => return None,
+        };
+    }
+    Some(count)
+}
+
+/// The k-th choice, from 0 on, of the number of all choices.
+pub(crate) fn choice_at(
+    alloc: Global,
+    problem: &Problem,
+    count: usize,
+    k: usize,
+) -> Result<List<ClassId>, NoMemory>
+    requires all { count ≡ choice_count problem.now.inputs }
+    requires within { k < count }
+    ensures { IfOk result (λ choice. map (λ c. c.0) choice ≡ slice_index_or (choices problem.now.inputs) k []) }
+{
+    let mut choice = List::new(alloc);
+    // the number of choices of the inputs that are left, and the place among them
+    let mut left = count;
+    let mut place = k;
+    for i in 0..problem.inputs() {
+        left /= problem.classes(InId(i as u32));
+        choice.push(ClassId((place / left) as u16))?;
+        place %= left;
+    }
+    Ok(choice)
 }

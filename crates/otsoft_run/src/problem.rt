@@ -1,31 +1,19 @@
-//! The classes of each input, by their profiles, and its winner.
+//! The problem that a tableau poses: the classes of each input, and the conditions between them.
 
 ghost use Rattle.std.specs.Prelude.{◌≡◌, ◌<◌, ◌≤◌, length, IfOk};
 ghost use Rattle.erc_vectors.specs.declared.condition.TheConstants.{LIMIT};
 ghost use Rattle.tableau_file.specs.declared.limits.TheConstants.{INPUT_LIMIT, CANDIDATE_LIMIT};
+ghost use Rattle.tableau_file.specs.Acceptable.{IsAcceptable};
+ghost use Rattle.ot_theory.specs.Conditions.{condition, mark_of};
 ghost use Rattle.ot_theory.specs.Languages.{classes_at, profile_at};
 ghost use Rattle.ot_base.specs.Tableaus.{problem_of};
 ghost use Rattle.otsoft_run.specs.WellFormed.{IsWellFormed};
 
-use erc_vectors::{List, NoMemory};
+use crate::classes::InputClasses;
+use erc_vectors::{Condition, LIMIT, List, Mark, NoMemory};
 use ot_base::{ClassId, InId, Tableau};
 use std::alloc::Global;
 use std::marker::Model;
-
-/// The distinct profiles of an input's candidates in order of first candidate, and the class of its winner.
-#[derive(Debug, Drop)]
-struct InputClasses {
-    profiles: List<List<u32>>,
-    winner: Option<u16>,
-}
-
-impl Model for InputClasses {
-    ghost use Rattle.ot_theory.specs.Problems.{Input};
-
-    ghost Value = { Input };
-
-    ghost view = { λ input. record { classes = input.profiles; winner = input.winner } };
-}
 
 /// A problem of optimality: a number of constraints, and inputs whose candidates fall into classes of equal profiles.
 #[derive(Debug, Drop)]
@@ -48,9 +36,17 @@ impl Model for Problem {
 impl Problem {
     /// The problem that a tableau poses.
     pub(crate) fn of(alloc: Global, tableau: &Tableau) -> Result<Problem, NoMemory>
+        requires { IsAcceptable tableau.now }
         ensures { IfOk result (λ problem. problem ≡ problem_of tableau.now) }
     {
-        Err(NoMemory)
+        let mut inputs = List::new(alloc);
+        for rows in tableau.inputs.as_slice() {
+            inputs.push(InputClasses::of(alloc, rows)?)?;
+        }
+        Ok(Problem {
+            constraints: tableau.names.len(),
+            inputs,
+        })
     }
 
     /// The number of constraints.
@@ -89,5 +85,44 @@ impl Problem {
     {
         let input = &self.inputs.as_slice()[i.0 as usize];
         input.profiles.as_slice()[a.0 as usize].as_slice()
+    }
+
+    /// The condition of one class of an input over another. It takes no memory.
+    pub(crate) fn condition(&self, i: InId, a: ClassId, b: ClassId) -> Condition
+        requires input { i.0 < length self.now.inputs }
+        requires winner { a.0 < length (classes_at self.now i.0) }
+        requires loser { b.0 < length (classes_at self.now i.0) }
+        ensures { result ≡ condition (profile_at self.now i.0 a.0) (profile_at self.now i.0 b.0) }
+    {
+        let width = self.constraints();
+        let mut all = [Mark::E; LIMIT];
+        mark_each(&mut all[..width], self.profile(i, a), self.profile(i, b));
+        match Condition::of(&all[..width]) {
+            Some(condition) => condition,
+            None => unreachable!(),
+        }
+    }
+}
+
+/// Writes the marks of the condition of one profile over another.
+fn mark_each(marks: &mut [Mark], winner: &[u32], loser: &[u32])
+    requires winner { length winner.now ≡ length marks.old }
+    requires loser { length loser.now ≡ length marks.old }
+    ensures { marks.new ≡ condition winner.now loser.now }
+{
+    for (k, mark) in marks.iter_mut().enumerate() {
+        *mark = mark_of(winner[k], loser[k]);
+    }
+}
+
+fn mark_of(winner: u32, loser: u32) -> Mark
+    ensures { result ≡ mark_of winner loser }
+{
+    if winner < loser {
+        Mark::W
+    } else if loser < winner {
+        Mark::L
+    } else {
+        Mark::E
     }
 }
