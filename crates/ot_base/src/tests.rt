@@ -1,0 +1,61 @@
+use crate::{Failed, Files, Label, MemFiles, MemSink, Sink, SureFiles};
+use erc_vectors::{List, NoMemory};
+use std::alloc::Global;
+use std::test::Fail;
+
+fn pairs(alloc: Global) -> Result<List<(Label, Label)>, NoMemory> {
+    let mut files = List::new(alloc);
+    for (name, bytes) in [("a", "first"), ("a", "second"), ("b", "")] {
+        let name = Label::of(alloc, name.as_bytes())?;
+        files.push((name, Label::of(alloc, bytes.as_bytes())?))?;
+    }
+    Ok(files)
+}
+
+/// The reads of a file in pieces of 3, with room for 4.
+#[test]
+fn files_in_memory_are_read(rt: HostRuntime) -> Result<(), Fail> {
+    let alloc = rt.alloc();
+    let mut fails = List::new(alloc);
+    fails.push(3)?;
+    let mut files = MemFiles::new(pairs(alloc)?, 3, fails);
+    let mut buf = [0; 4];
+    assert_eq!(rt; files.open_file("c"), Err(Failed));
+    assert_eq!(rt; files.open_file("a"), Ok(()));
+    for (answer, read) in [
+        (Err(Failed), b"\0\0\0\0"),
+        (Ok(3), b"fir\0"),
+        (Ok(2), b"str\0"),
+        (Ok(0), b"str\0"),
+    ] {
+        assert_eq!(rt; files.read(&mut buf), answer);
+        assert!(rt; buf == *read);
+    }
+    let mut sure = SureFiles::new(pairs(alloc)?);
+    assert_eq!(rt; sure.open_file("c"), Ok(()));
+    assert_eq!(rt; sure.read(&mut buf), Ok(0));
+    assert_eq!(rt; sure.open_file("a"), Ok(()));
+    assert_eq!(rt; sure.read(&mut buf), Ok(4));
+    assert!(rt; buf == *b"firs");
+    Ok(())
+}
+
+/// Writes of 5 bytes in pieces of 4 into room for 6, of which the second fails.
+#[test]
+fn sinks_in_memory_are_written(rt: HostRuntime) -> Result<(), Fail> {
+    let alloc = rt.alloc();
+    let mut fails = List::new(alloc);
+    fails.push(2)?;
+    let mut sink = MemSink::with_room(alloc, 6, 4, fails)?;
+    for (answer, written) in [
+        (Ok(4), "abcd"),
+        (Err(Failed), "abcd"),
+        (Ok(2), "abcdab"),
+        (Err(Failed), "abcdab"),
+    ] {
+        assert_eq!(rt; sink.write(b"abcde"), answer);
+        assert!(rt; sink.written() == written.as_bytes());
+    }
+    assert_eq!(rt; sink.write(b""), Ok(0));
+    Ok(())
+}
