@@ -1,5 +1,5 @@
--- Lists with a byte between each two items.
-use Rattle.std.proofs.Common.{◌≡◌, ℕ, zero, suc, ◌+◌, ◌<◌, List, [], ◌∷◌, ◌++◌, length, get_or, take, map, Bool, true, false, cond, eqb, ◌==◌, slice_index, filter, decimal, flat_map, arith, refl, sym, ◌∙◌, ap, append_assoc}
+-- Lists with something between each two items, one more item at a time.
+use Rattle.std.proofs.Common.{◌≡◌, ℕ, zero, suc, ◌+◌, ◌<◌, List, [], ◌∷◌, ◌++◌, length, get_or, take, map, Bool, true, false, cond, eqb, ◌==◌, slice_index, filter, decimal, flat_map, arith, refl, sym, ap, append_assoc}
 use Rattle.std.specs.List.{join_with_byte, join_by, range_with_len}
 use Rattle.std.proofs.lemmas.List.{map_push, map-id, append-nil, take_more}
 use Rattle.std.proofs.lemmas.List.FromFn.{map-range_with_len_more, filter_of_map_range_with_len_more}

@@ -1,6 +1,7 @@
-use Rattle.std.proofs.Common.{arith, rules, append_assoc, take_all, ◌≤◌, length, refl}
-use Rattle.std.specs.List.{zip}
+use Rattle.std.proofs.Common.{◌∷◌, [], length, codes, decimal, flat_map, arith, append_assoc, take_all, ap}
+use Rattle.std.specs.List.{zip, enumerate_from}
 use Rattle.std.proofs.lemmas.Slice.Zip.{length-zip}
+use Rattle.otsoft_run.specs.Spelling.{line}
 use Rattle.otsoft_run.proofs.Grown.{numbered_pairs_more}
 use Rattle.otsoft_run.proofs.head.put_constraints.Invariants.{constraint_line}
 use Rattle.otsoft_run.proofs.head.put_constraints.Goals as goal
@@ -14,7 +15,8 @@ loop-k-preserved c =
 
 pub returns : goal.returns
 returns c =
-    let a = c.as_slice-abbreviations.result.now in
-    let b = c.as_slice-names.result.now in
-    let all = take_all c.loop-k.k (zip a b) (omega (arith, length-zip a b)) in
-    rw (c.loop-k.invariant, all, c.in_ok-count_line.ensures, c.as_slice-abbreviations.ensures, c.as_slice-names.ensures, append_assoc) refl
+    let t = c.args.tableau.now in
+    let pairs = zip t.abbrevs t.names in
+    let all = take_all c.loop-k.k pairs (omega (arith, length-zip t.abbrevs t.names, ap length c.as_slice-abbreviations.ensures, ap length c.as_slice-names.ensures)) in
+    rw (c.loop-k.invariant, c.in_ok-count_line.ensures, c.as_slice-abbreviations.ensures, c.as_slice-names.ensures, all)
+    (append_assoc c.args.text.now (line (codes "constraints" ∷ decimal (length t.names) ∷ [])) (flat_map constraint_line (enumerate_from 1 pairs)))

@@ -1,9 +1,8 @@
-use Rattle.std.proofs.Common.{◌≡◌, ℕ, ◌<◌, ◌≤◌, List, [], ◌∷◌, ◌++◌, length, codes, decimal, flat_map, arith, append_assoc, refl, sym, take_all, Some, ap}
+use Rattle.std.proofs.Common.{◌≡◌, ℕ, ◌<◌, List, [], ◌∷◌, ◌++◌, length, codes, decimal, flat_map, arith, append_assoc, refl, sym, take_all, Some, ap}
 use Rattle.std.specs.List.{slice_get, zip, enumerate_from}
 use Rattle.std.proofs.lemmas.Option.{slice_get-map, slice_get_read, get_or_from_slice_get}
 use Rattle.std.proofs.lemmas.List.{length-map}
 use Rattle.std.proofs.lemmas.Slice.Zip.{length-zip}
-use Rattle.ot_theory.specs.Problems.{Input}
 use Rattle.ot_base.specs.declared.tableau.Tableau.{Tableau}
 use Rattle.ot_base.specs.declared.tableau.InputRows.{InputRows}
 use Rattle.ot_base.specs.Tableaus.{problem_of, input_of_rows}

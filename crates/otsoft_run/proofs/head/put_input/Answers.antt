@@ -1,5 +1,4 @@
-use Rattle.std.proofs.Common.{◌≡◌, ◌+◌, [], arith, append_assoc, refl, take_all, Some}
-use Rattle.std.specs.List.{slice_get}
+use Rattle.std.proofs.Common.{◌+◌, [], arith, append_assoc}
 use Rattle.ot_theory.specs.Languages.{classes_at}
 use Rattle.otsoft_run.proofs.Grown.{numbered_more}
 use Rattle.otsoft_run.proofs.head.put_input.Invariants.{class_line}

@@ -1,5 +1,5 @@
 -- the lines of the first classes are written
-use Rattle.std.proofs.Common.{◌≡◌, ℕ, ◌+◌, List, ◌++◌, take, flat_map}
+use Rattle.std.proofs.Common.{◌≡◌, ℕ, List, ◌++◌, take, flat_map}
 use Rattle.std.specs.List.{enumerate_from}
 use Rattle.ot_base.specs.declared.tableau.InputRows.{InputRows}
 use Rattle.ot_theory.specs.Languages.{classes_at}

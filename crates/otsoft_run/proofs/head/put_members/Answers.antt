@@ -1,4 +1,4 @@
-use Rattle.std.proofs.Common.{◌≡◌, Bool, true, false, arith, append_assoc, append-nil, ap, length}
+use Rattle.std.proofs.Common.{◌≡◌, true, false, arith, append_assoc, append-nil, ap, length}
 use Rattle.ot_theory.specs.Problems.{same_profile}
 use Rattle.otsoft_run.proofs.Grown.{passing_more}
 use Rattle.otsoft_run.proofs.head.put_members.Invariants.{field}

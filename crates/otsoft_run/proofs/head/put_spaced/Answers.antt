@@ -1,4 +1,4 @@
-use Rattle.std.proofs.Common.{arith, append_assoc, refl}
+use Rattle.std.proofs.Common.{arith, append_assoc}
 use Rattle.otsoft_run.proofs.Spaced.{spaced_more}
 use Rattle.otsoft_run.proofs.head.put_spaced.Goals as goal
 

@@ -1,4 +1,4 @@
-use Rattle.std.proofs.Common.{◌≡◌, true, false, eqb, get_or, arith, ap}
+use Rattle.std.proofs.Common.{◌≡◌, get_or}
 use Rattle.std.proofs.lemmas.Bool.{eq-eqb, ne_eqb}
 use Rattle.otsoft_run.proofs.Spaced.{IsStratumBelow-in, IsStratumBelow-out}
 use Rattle.otsoft_run.proofs.typology_text.put_stratum.Goals as goal
