@@ -1,7 +1,7 @@
 //! The choices of one class per input, by their numbers in lexicographic order.
 
-ghost use Rattle.std.specs.Prelude.{◌≡◌, ◌<◌, ◌≤◌, map, slice_index_or, [], IfOk, IfSome, IfNone};
-ghost use Rattle.ot_theory.specs.Languages.{choices, choice_count};
+ghost use Rattle.std.specs.Prelude.{◌≡◌, ◌<◌, ◌≤◌, map, IfOk, IfSome, IfNone};
+ghost use Rattle.ot_theory.specs.Languages.{choice_at, choice_count};
 
 use crate::problem::Problem;
 use erc_vectors::{List, NoMemory};
@@ -13,15 +13,16 @@ pub(crate) fn choice_count_within(problem: &Problem, limit: usize) -> Option<usi
     ensures some { IfSome result (λ count. (count ≡ choice_count problem.now.inputs) × (count ≤ limit)) }
     ensures none { IfNone result (limit < choice_count problem.now.inputs) }
 {
-    if limit == 0 {
-        return None;
-    }
     let mut count: usize = 1;
     for i in 0..problem.inputs() {
-        count = match count.checked_mul(problem.classes(InId(i as u32))) {
-            Some(product) if product <= limit => product,
-            _ => return None,
-        };
+        let product = count.checked_mul(problem.classes(InId(i as u32)))?;
+        if product > limit {
+            return None;
+        }
+        count = product;
+    }
+    if count > limit {
+        return None;
     }
     Some(count)
 }
@@ -35,7 +36,7 @@ pub(crate) fn choice_at(
 ) -> Result<List<ClassId>, NoMemory>
     requires all { count ≡ choice_count problem.now.inputs }
     requires within { k < count }
-    ensures { IfOk result (λ choice. map (λ c. c.0) choice ≡ slice_index_or (choices problem.now.inputs) k []) }
+    ensures { IfOk result (λ choice. map (λ c. c.0) choice ≡ choice_at problem.now.inputs k) }
 {
     let mut choice = List::new(alloc);
     // the number of choices of the inputs that are left, and the place among them

@@ -52,7 +52,10 @@ fn winner_of(candidates: &[CandidateRow], classes: &[List<u32>]) -> Option<u16>
 }
 
 /// The distinct profiles in order of first candidate.
-fn distinct_profiles(alloc: Global, candidates: &[CandidateRow]) -> Result<List<List<u32>>, NoMemory>
+fn distinct_profiles(
+    alloc: Global,
+    candidates: &[CandidateRow],
+) -> Result<List<List<u32>>, NoMemory>
     ensures classes { IfOk result (λ profiles. profiles ≡ classes_of (map (λ row. row.violations) candidates.now)) }
     ensures few { IfOk result (λ profiles. length profiles ≤ length candidates.now) }
 {

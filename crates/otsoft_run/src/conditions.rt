@@ -19,6 +19,7 @@ pub(crate) fn conditions_of(
     requires within { (i : ℕ) → i < length choice.now → slice_index (map (λ c. c.0) choice.now) i < length (classes_at problem.now i) }
     ensures { IfOk result (λ set. set ≡ conditions_of problem.now (map (λ c. c.0) choice.now)) }
 {
+    prove!(choice.len() <= problem.inputs());
     let mut set = List::new(alloc);
     for (i, winner) in choice.iter().enumerate() {
         add_conditions(&mut set, problem, InId(i as u32), *winner)?;

@@ -61,6 +61,7 @@ impl Problem {
     pub(crate) fn inputs(&self) -> usize
         ensures value { result ≡ length self.now.inputs }
         ensures small { result ≤ INPUT_LIMIT }
+        ensures well_formed { IsWellFormed self.now }
     {
         self.inputs.len()
     }

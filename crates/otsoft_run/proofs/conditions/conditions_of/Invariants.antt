@@ -1,0 +1,6 @@
+use Rattle.std.proofs.Common.{◌≡◌, map, take}
+use Rattle.ot_theory.specs.Languages.{conditions_of}
+use Rattle.otsoft_run.proofs.conditions.conditions_of.Given as goal
+
+abbrev pub invariant-loop-i : goal.invariant-loop-i
+invariant-loop-i l = l.set ≡ conditions_of l.problem (map (λ c. c.0) (take l.i l.choice))
