@@ -1,5 +1,7 @@
+//! Recursive constraint demotion (Tesar and Smolensky 2000), with the stratum numbers as its only state: 0 for a constraint
+//! that is not placed yet. So a condition is closed where a constraint with W is placed.
+
 ghost use Rattle.std.specs.Prelude.{◌≡◌, ◌+◌, ◌<◌, ◌≤◌, ◌||◌, true, false, length, slice_index, slice_index_or, EachIndex, All, Contains, IfSome, IfNone};
-ghost use Rattle.std.specs.Option.{ForSome};
 ghost use Rattle.ot_theory.specs.Rankings.{count_of};
 ghost use Rattle.ot_theory.specs.Conditions.{is_loss, mark_at};
 ghost use Rattle.ot_theory.specs.Hierarchies.{IsLeastHierarchy};
@@ -95,50 +97,4 @@ fn place_free(levels: &mut [u8], blocked: &[bool], given: u8) -> usize
         }
     }
     placed
-}
-
-#[cfg(test)]
-mod tests {
-    use super::*;
-    use Mark::{E, L, W};
-
-    fn condition(marks: &[Mark]) -> Condition
-        requires { length marks.now ≤ LIMIT }
-        ensures { result ≡ marks.now }
-    {
-        match Condition::of(marks) {
-            Some(condition) => condition,
-            None => unreachable!(),
-        }
-    }
-
-    fn has_levels(strata: Option<Strata>, want: &[u8]) -> bool
-        requires small { length want.now ≤ LIMIT }
-        requires same { ForSome strata (λ levels. length levels ≡ length want.now) }
-    {
-        let Some(strata) = strata else {
-            return false;
-        };
-        for k in 0..want.len() {
-            if strata.level(ConId(k as u16)) != want[k] {
-                return false;
-            }
-        }
-        true
-    }
-
-    #[test]
-    fn places_each_constraint_as_high_as_it_can_stand(rt: HostRuntime) {
-        let marked = [condition(&[L, E, W, E]), condition(&[E, L, W, W])];
-        assert!(rt; has_levels(least_hierarchy(4, &marked), &[2, 2, 1, 1]));
-        let below_one = [condition(&[L, W, E]), condition(&[L, E, W])];
-        assert!(rt; has_levels(least_hierarchy(3, &below_one), &[2, 1, 1]));
-        assert!(rt; has_levels(least_hierarchy(3, &[]), &[1, 1, 1]));
-    }
-
-    #[test]
-    fn finds_none_where_each_must_stand_above_the_other(rt: HostRuntime) {
-        let both = [condition(&[W, L]), condition(&[L, W])];
-        assert!(rt; least_hierarchy(2, &both).is_none());
-    }
 }
