@@ -1,13 +1,16 @@
 -- The typology of a problem, choice by choice.
-use Rattle.std.proofs.Common.{◌≡◌, ℕ, ◌+◌, List, [], ◌∷◌, ◌++◌, true, false, not, arith, refl, sym, ◌∙◌, ap, cond, map}
-use Rattle.std.specs.Prelude.{All, filter}
+use Rattle.std.proofs.Common.{◌≡◌, ℕ, ◌+◌, List, [], ◌∷◌, ◌++◌, true, false, not, arith, refl, sym, ◌∙◌, ap, cond, map, Option, Some, None, MatchOption}
+use Rattle.std.specs.Prelude.{All, filter, IfSome, IfNone}
 use Rattle.std.proofs.lemmas.List.{map_push, append-nil}
 use Rattle.std.proofs.lemmas.List.Elements.{All-push, All-nil}
 use Rattle.std.proofs.lemmas.List.FromFn.{filter_of_map_range_with_len_more}
+use Rattle.ot_theory.specs.declared.Mark.{Mark}
 use Rattle.ot_theory.specs.Rankings.{numbers_below}
 use Rattle.ot_theory.specs.Hierarchies.{IsLeastHierarchy}
 use Rattle.ot_theory.specs.Problems.{Problem}
 use Rattle.ot_theory.specs.Languages.{choices, choice_at, choice_count, refuted, languages, conditions_of, IsTypology}
+use Rattle.ot_theory.specs.Refutations.{no_ranking_keeps}
+use Rattle.ot_theory.proofs.Optimal.{AllFit, refuted-conditions}
 use Rattle.ot_theory.proofs.Choices.{EachSome, choices-numbered}
 
 -- a choice beside the least hierarchy of its conditions
@@ -39,3 +42,12 @@ IsTypology-all problem found s t = record {
   all = t.all ∙ ap (filter (λ choice. not (refuted problem choice))) (sym (choices-numbered problem.inputs s));
   least = t.least;
 }
+
+-- Demotion of its conditions decides whether a choice is a language.
+pub refuted-demoted : (problem : Problem) (choice : List ℕ) (n : ℕ) (set : List (List Mark)) (levels : Option (List ℕ)) → AllFit problem.constraints problem.inputs choice
+    → n ≡ problem.constraints → set ≡ conditions_of problem choice
+    → IfSome levels (λ least. (no_ranking_keeps n set ≡ false) × IsLeastHierarchy n set least) → IfNone levels (no_ranking_keeps n set ≡ true)
+    → MatchOption levels (refuted problem choice ≡ true) (λ least. (refuted problem choice ≡ false) × HasLeast problem (choice, least))
+refuted-demoted problem choice n set None fits e same ranked stuck = refuted-conditions problem choice fits ∙ (rw (e, same) at stuck)
+refuted-demoted problem choice n set (Some least) fits e same ranked stuck =
+    (refuted-conditions problem choice fits ∙ (rw (e, same) at ranked.0), rw (e, same) at ranked.1)

@@ -1,8 +1,9 @@
--- Problems within the limits.
-use Rattle.std.specs.Prelude.{ℕ, ◌≤◌, length, All}
+-- Problems within the limits, and prefixes of their choices.
+use Rattle.std.specs.Prelude.{ℕ, ◌<◌, ◌≤◌, List, length, slice_index, All}
 use Rattle.erc_vectors.specs.declared.condition.TheConstants.{LIMIT}
 use Rattle.tableau_file.specs.declared.limits.TheConstants.{INPUT_LIMIT, CANDIDATE_LIMIT}
 use Rattle.ot_theory.specs.Problems.{Problem, Input}
+use Rattle.ot_theory.specs.Languages.{classes_at}
 use Rattle.ot_theory.proofs.Optimal.{AreClasses}
 
 -- classes of n constraints each, at least one, no two of them alike
@@ -15,3 +16,8 @@ pub record IsWellFormed (problem : Problem) : Type 0 where
   pub constraints : problem.constraints ≤ LIMIT
   pub inputs : length problem.inputs ≤ INPUT_LIMIT
   pub each : All (IsWellFormedInput problem.constraints) problem.inputs
+
+-- the first classes of a choice: each is a class of its input
+pub record IsPrefix (problem : Problem) (prefix : List ℕ) : Type 0 where
+  pub short : length prefix ≤ length problem.inputs
+  pub within : (i : ℕ) → i < length prefix → slice_index prefix i < length (classes_at problem i)

@@ -2,6 +2,7 @@
 
 ghost use Rattle.std.specs.Prelude.{◌≡◌, ◌<◌, ◌≤◌, map, IfOk, IfSome, IfNone};
 ghost use Rattle.ot_theory.specs.Languages.{choice_at, choice_count};
+ghost use Rattle.otsoft_run.specs.WellFormed.{IsPrefix, IsWellFormed};
 
 use crate::problem::Problem;
 use erc_vectors::{List, NoMemory};
@@ -12,6 +13,7 @@ use std::alloc::Global;
 pub(crate) fn choice_count_within(problem: &Problem, limit: usize) -> Option<usize>
     ensures some { IfSome result (λ count. (count ≡ choice_count problem.now.inputs) × (count ≤ limit)) }
     ensures none { IfNone result (limit < choice_count problem.now.inputs) }
+    ensures well_formed { IsWellFormed problem.now }
 {
     let mut count: usize = 1;
     for i in 0..problem.inputs() {
@@ -36,7 +38,8 @@ pub(crate) fn choice_at(
 ) -> Result<List<ClassId>, NoMemory>
     requires all { count ≡ choice_count problem.now.inputs }
     requires within { k < count }
-    ensures { IfOk result (λ choice. map (λ c. c.0) choice ≡ choice_at problem.now.inputs k) }
+    ensures value { IfOk result (λ choice. map (λ c. c.0) choice ≡ choice_at problem.now.inputs k) }
+    ensures prefix { IsPrefix problem.now (choice_at problem.now.inputs k) }
 {
     let mut choice = List::new(alloc);
     // the number of choices of the inputs that are left, and the place among them

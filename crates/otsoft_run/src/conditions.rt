@@ -1,7 +1,8 @@
 //! What a choice asks of a ranking.
 
-ghost use Rattle.std.specs.Prelude.{◌≡◌, ◌<◌, ◌≤◌, ◌++◌, ℕ, length, map, slice_index, IfOk, OnOk};
+ghost use Rattle.std.specs.Prelude.{◌≡◌, ◌<◌, ◌++◌, All, length, map, IfOk, OnOk};
 ghost use Rattle.ot_theory.specs.Languages.{classes_at, condition_of, conditions_of, terms_of_class};
+ghost use Rattle.otsoft_run.specs.WellFormed.{IsPrefix};
 
 use crate::problem::Problem;
 use erc_vectors::{Condition, List, NoMemory};
@@ -15,9 +16,9 @@ pub(crate) fn conditions_of(
     problem: &Problem,
     choice: &[ClassId],
 ) -> Result<List<Condition>, NoMemory>
-    requires short { length choice.now ≤ length problem.now.inputs }
-    requires within { (i : ℕ) → i < length choice.now → slice_index (map (λ c. c.0) choice.now) i < length (classes_at problem.now i) }
-    ensures { IfOk result (λ set. set ≡ conditions_of problem.now (map (λ c. c.0) choice.now)) }
+    requires { IsPrefix problem.now (map (λ c. c.0) choice.now) }
+    ensures conditions { IfOk result (λ set. set ≡ conditions_of problem.now (map (λ c. c.0) choice.now)) }
+    ensures widths { IfOk result (λ set. All (λ marks. length marks ≡ problem.now.constraints) set) }
 {
     prove!(choice.len() <= problem.inputs());
     let mut set = List::new(alloc);
@@ -36,7 +37,9 @@ fn add_conditions(
 ) -> Result<(), NoMemory>
     requires input { i.0 < length problem.now.inputs }
     requires class { winner.0 < length (classes_at problem.now i.0) }
-    ensures { OnOk result (set.new ≡ set.old ++ map (condition_of problem.now) (terms_of_class (classes_at problem.now i.0) i.0 winner.0)) }
+    requires widths { All (λ marks. length marks ≡ problem.now.constraints) set.old }
+    ensures added { OnOk result (set.new ≡ set.old ++ map (condition_of problem.now) (terms_of_class (classes_at problem.now i.0) i.0 winner.0)) }
+    ensures widths { All (λ marks. length marks ≡ problem.now.constraints) set.new }
 {
     for b in 0..problem.classes(i) {
         let loser = ClassId(b as u16);

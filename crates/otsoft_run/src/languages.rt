@@ -1,9 +1,11 @@
 //! The languages of a problem: all choices that some ranking makes optimal, each with its least hierarchy.
 
-ghost use Rattle.std.specs.Prelude.{◌≤◌, IfOk};
-ghost use Rattle.ot_theory.specs.Languages.{choice_count, IsTypology};
+ghost use Rattle.std.specs.Prelude.{◌≡◌, ◌≤◌, true, false, map, IfOk, MatchOption};
+ghost use Rattle.ot_theory.specs.Hierarchies.{IsLeastHierarchy};
+ghost use Rattle.ot_theory.specs.Languages.{choice_count, conditions_of, refuted, IsTypology};
 ghost use Rattle.otsoft_run.specs.declared.judging.TheConstants.{CHOICE_LIMIT};
 ghost use Rattle.otsoft_run.specs.Found.{found_of};
+ghost use Rattle.otsoft_run.specs.WellFormed.{IsPrefix};
 
 use crate::choices::{choice_at, choice_count_within};
 use crate::conditions::conditions_of;
@@ -34,11 +36,11 @@ pub(crate) fn languages_of(alloc: Global, problem: &Problem) -> Result<List<Lang
 }
 
 /// The least hierarchy that makes each class of a choice optimal, and None where no ranking does.
-fn strata_of(
-    alloc: Global,
-    problem: &Problem,
-    choice: &[ClassId],
-) -> Result<Option<Strata>, NoMemory> {
+fn strata_of(alloc: Global, problem: &Problem, choice: &[ClassId]) -> Result<Option<Strata>, NoMemory>
+    requires { IsPrefix problem.now (map (λ c. c.0) choice.now) }
+    ensures { let classes = map (λ c. c.0) choice.now in IfOk result (λ strata. MatchOption strata (refuted problem.now classes ≡ true)
+        (λ levels. (refuted problem.now classes ≡ false) × IsLeastHierarchy problem.now.constraints (conditions_of problem.now classes) levels)) }
+{
     let set = conditions_of(alloc, problem, choice)?;
     Ok(least_hierarchy(problem.constraints(), set.as_slice()))
 }

@@ -93,7 +93,8 @@ impl Problem {
         requires input { i.0 < length self.now.inputs }
         requires winner { a.0 < length (classes_at self.now i.0) }
         requires loser { b.0 < length (classes_at self.now i.0) }
-        ensures { result ≡ condition (profile_at self.now i.0 a.0) (profile_at self.now i.0 b.0) }
+        ensures marks { result ≡ condition (profile_at self.now i.0 a.0) (profile_at self.now i.0 b.0) }
+        ensures width { length result ≡ self.now.constraints }
     {
         let width = self.constraints();
         let mut all = [Mark::E; LIMIT];

@@ -2,7 +2,7 @@ use Rattle.std.proofs.Common.{◌≡◌, ◌+◌, ◌/◌, ◌%◌, ◌<◌, [],
 use Rattle.std.proofs.lemmas.List.{map_push}
 use Rattle.ot_theory.specs.Languages.{choice_count, choice_at}
 use Rattle.ot_theory.proofs.Digits.{count_left, choice_step, some_left}
-use Rattle.otsoft_run.proofs.Inputs.{EachSome-from_well_formed}
+use Rattle.otsoft_run.proofs.Inputs.{EachSome-from_well_formed, IsPrefix-choice_at}
 use Rattle.otsoft_run.proofs.choices.choice_at.Goals as goal
 use Rattle.otsoft_run.proofs.choices.choice_at.Goals.{After-classes-left}
 
@@ -32,3 +32,9 @@ loop-i-preserved c =
           rw (c.in_ok-push.ensures.ok, map_push (λ c. c.0) c.loop-i.choice, append_assoc, left_is before, ← choice_step inputs c.loop-i.i c.loop-i.place (omega arith))
           c.loop-i.invariant.digits;
     }
+
+pub returns-in_err-push-clause-prefix : goal.returns-in_err-push-clause-prefix
+returns-in_err-push-clause-prefix c = IsPrefix-choice_at c.args.problem.now c.args.k c.inputs-i-end.ensures.well_formed (omega arith)
+
+pub returns-clause-prefix : goal.returns-clause-prefix
+returns-clause-prefix c = IsPrefix-choice_at c.args.problem.now c.args.k c.inputs-i-end.ensures.well_formed (omega arith)
