@@ -36,12 +36,6 @@ fn main(rt: HostRuntime) -> ExitCode {
     let mut files = SystemFiles::new(&rt);
     let mut out = SystemSink::new(rt.stdout());
     let mut err = SystemSink::new(rt.stderr());
-    let status = run(
-        rt.alloc(),
-        words.as_slice(),
-        &mut files,
-        &mut out,
-        &mut err,
-    );
+    let status = run(rt.alloc(), words.as_slice(), &mut files, &mut out, &mut err);
     ExitCode::from(status.code())
 }

@@ -22,11 +22,7 @@ pub(crate) enum PoseError {
 }
 
 /// Reads a file to its end and judges it.
-pub(crate) fn pose<F: Files>(
-    alloc: Global,
-    files: &mut F,
-    file: &str,
-) -> Result<Posed, PoseError>
+pub(crate) fn pose<F: Files>(alloc: Global, files: &mut F, file: &str) -> Result<Posed, PoseError>
     ensures accepted { IfOk result (λ posed. (bytes : List ℕ) → (F.told files.old).stored file.now ≡ Some bytes → judged file.now bytes ≡ Ok posed) }
     ensures poses { IfOk result (λ posed. posed.problem ≡ problem_of posed.tableau) }
     ensures few { IfOk result (λ posed. choice_count posed.problem.inputs ≤ CHOICE_LIMIT) }

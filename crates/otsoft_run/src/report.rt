@@ -18,10 +18,5 @@ pub(crate) fn typology_report(alloc: Global, posed: &Posed) -> Result<Text, NoMe
     ensures { IfOk result (λ report. IsTypologyReport posed.now report) }
 {
     let found = languages_of(alloc, &posed.problem)?;
-    typology_text(
-        alloc,
-        &posed.tableau,
-        &posed.problem,
-        found.as_slice(),
-    )
+    typology_text(alloc, &posed.tableau, &posed.problem, found.as_slice())
 }

@@ -69,13 +69,7 @@ pub(crate) fn typology<F: Files, O: Sink, E: Sink>(
 }
 
 /// Tells a refusal.
-fn refuse<E: Sink>(
-    alloc: Global,
-    err: &mut E,
-    file: &str,
-    line: u32,
-    reason: Reason,
-) -> Status
+fn refuse<E: Sink>(alloc: Global, err: &mut E, file: &str, line: u32, reason: Reason) -> Status
     ensures status { (result ≡ Status.Refused) ⊎ (result ≡ Status.NoMemory) }
     ensures refused { result ≡ Status.Refused → Says (E.told err.old) (E.told err.new) (refusal_line (refusal_of file.now line reason)) }
     ensures no_memory { result ≡ Status.NoMemory → Says (E.told err.old) (E.told err.new) memory_line }
