@@ -1,9 +1,11 @@
 -- A class is optimal exactly where the ranking keeps its conditions over all other classes of its input.
-use Rattle.std.proofs.Common.{◌≡◌, ◌≢◌, ℕ, zero, suc, ◌+◌, ◌<◌, ◌≤◌, List, [], ◌∷◌, ◌++◌, Bool, true, false, not, ◌||◌, ◌&&◌, ◌==◌, arith, refl, sym, ◌∙◌, ap, inl, inr, length, map, flat_map, slice_index, slice_index_or, drop, add-one}
+use Rattle.std.proofs.Common.{◌≡◌, ◌≢◌, ℕ, zero, suc, ◌+◌, ◌<◌, ◌≤◌, List, [], ◌∷◌, Bool, true, false, not, ◌||◌, ◌&&◌, ◌==◌, arith, refl, sym, ◌∙◌, ap, inl, inr, length, flat_map, slice_index, slice_index_or, drop, add-one}
 use Rattle.std.specs.Prelude.{filter, nat_lt, slice_get}
 use Rattle.std.specs.List.{range_with_len, list_all, list_any, enumerate_from}
 use Rattle.std.specs.Option.{option_map_or}
-use Rattle.std.proofs.lemmas.Bool.Decides.{eqb_tells, nat_tests}
+use Rattle.std.proofs.lemmas.Bool.{lt-ltb}
+use Rattle.std.proofs.lemmas.List.Folds.{list_all-map, list_all-append}
+use Rattle.std.proofs.lemmas.Bool.Decides.{eqb_tells}
 use Rattle.ot_theory.specs.Rankings.{better, optimal, numbers_below, IsRanking, rankings}
 use Rattle.ot_theory.specs.Conditions.{condition, keeps}
 use Rattle.ot_theory.specs.Problems.{Input, Problem}
@@ -38,16 +40,9 @@ others a m p q e s (suc k) h = elim (eqb_tells s a) [
   | inr other ↦ rw (other.0, e s (omega arith) other.1, others a m p q e (s + 1) k (omega arith)) refl
 ]
 
-all-map : {X Y : Type 0} (p : Y → Bool) (f : X → Y) (xs : List X) → list_all p (map f xs) ≡ list_all (λ x. p (f x)) xs
-all-map p f [] = refl
-all-map p f (x ∷ xs) = ap (λ (b : Bool). p (f x) && b) (all-map p f xs)
-
 and_true : (a b : Bool) → a ≡ true → (a && b) ≡ b
 and_true true b h = refl
 and_true false b h = absurd (cc)
-
-lt-ltb : (a b : ℕ) → a < b → nat_lt a b ≡ true
-lt-ltb a b h = grind (arith, nat_tests)
 
 pub optimal-conditions : (n : ℕ) (order : List ℕ) (classes : List (List ℕ)) (a : ℕ) → IsRanking n order → AreClasses n classes → a < length classes
     → optimal order classes a ≡ list_all (λ b. keeps order (condition (slice_index_or classes a []) (slice_index_or classes b []))) (filter (λ b. not (b == a)) (numbers_below (length classes)))
@@ -56,17 +51,9 @@ optimal-conditions n order classes a ranking c la =
     ∙ others a (length classes) (λ b. better order (slice_index_or classes a []) (slice_index_or classes b [])) (λ b. keeps order (condition (slice_index_or classes a []) (slice_index_or classes b [])))
     (λ b lb ne. better-condition n order classes a b ranking c la lb ne) 0 (length classes) (omega arith)
 
-all-append : {X : Type 0} (p : X → Bool) (xs ys : List X) → list_all p (xs ++ ys) ≡ (list_all p xs && list_all p ys)
-all-append p [] ys = refl
-all-append p (x ∷ xs) ys = rw (all-append p xs ys) (and_assoc (p x) (list_all p xs) (list_all p ys))
-  where
-    and_assoc : (a b c : Bool) → (a && (b && c)) ≡ ((a && b) && c)
-    and_assoc true b c = refl
-    and_assoc false b c = refl
-
 all-flat_map : {X Y : Type 0} (p : Y → Bool) (f : X → List Y) (xs : List X) → list_all p (flat_map f xs) ≡ list_all (λ x. list_all p (f x)) xs
 all-flat_map p f [] = refl
-all-flat_map p f (x ∷ xs) = all-append p (f x) (flat_map f xs) ∙ ap (λ (b : Bool). list_all p (f x) && b) (all-flat_map p f xs)
+all-flat_map p f (x ∷ xs) = list_all-append p (f x) (flat_map f xs) ∙ ap (λ (b : Bool). list_all p (f x) && b) (all-flat_map p f xs)
 
 -- The inputs from the i-th on, beside a prefix of a choice of them: each input has classes, and the prefix names one.
 pub record Fits (n : ℕ) (input : Input) (a : ℕ) : Type 0 where
@@ -104,7 +91,7 @@ asked order a classes = list_all (λ b. keeps order (condition (slice_index_or c
 
 class_kept : (problem : Problem) (order : List ℕ) (i a : ℕ) (input : Input) (rest : List Input) → IsRanking problem.constraints order → drop i problem.inputs ≡ input ∷ rest → Fits problem.constraints input a → keeps_class order problem (i, a) ≡ optimal order input.classes a
 class_kept problem order i a input rest ranking e f =
-    all-map (λ t. keeps order (condition_of problem t)) (λ b. record { input = i; winner = a; loser = b }) (filter (λ b. not (b == a)) (numbers_below (length (classes_at problem i))))
+    list_all-map (λ t. keeps order (condition_of problem t)) (λ b. record { input = i; winner = a; loser = b }) (filter (λ b. not (b == a)) (numbers_below (length (classes_at problem i))))
     ∙ ap (asked order a) (at_drop problem.inputs i input rest e)
     ∙ sym (optimal-conditions problem.constraints order input.classes a ranking f.classes f.within)
 
@@ -121,7 +108,7 @@ prefix_kept problem order i (input ∷ rest) (a ∷ prefix) ranking e f =
 pub holds-conditions : (problem : Problem) (order prefix : List ℕ) → IsRanking problem.constraints order → AllFit problem.constraints problem.inputs prefix → holds problem order prefix ≡ list_all (keeps order) (conditions_of problem prefix)
 holds-conditions problem order prefix ranking f =
     sym (
-    all-map (keeps order) (condition_of problem) (terms_of problem prefix)
+    list_all-map (keeps order) (condition_of problem) (terms_of problem prefix)
     ∙ all-flat_map (λ t. keeps order (condition_of problem t)) (λ (i, a). terms_of_class (classes_at problem i) i a) (enumerate_from 0 prefix)
     ∙ prefix_kept problem order 0 problem.inputs prefix ranking refl f
     )
