@@ -6,7 +6,9 @@ use Rattle.std.proofs.lemmas.List.{length-map, length-drop, nil_from_length}
 use Rattle.std.proofs.lemmas.List.Elements.{All-nil, All-cons, All-head, All-tail, All-weaker}
 use Rattle.std.proofs.lemmas.List.Sums.{AllPass-from_list_all}
 use Rattle.std.proofs.lemmas.List.FromFn.{length-enumerate_from, length-range_with_len}
+use Rattle.erc_vectors.specs.declared.condition.TheConstants.{LIMIT}
 use Rattle.ot_base.specs.declared.tableau.Tableau.{Tableau}
+use Rattle.tableau_file.specs.declared.limits.TheConstants.{INPUT_LIMIT, CANDIDATE_LIMIT, ROW_LIMIT}
 use Rattle.tableau_file.specs.declared.Why.TheVariants.{NotYet}
 use Rattle.tableau_file.specs.Acceptable.{IsRow, AreRows, IsAcceptable}
 use Rattle.tableau_file.specs.Lines.{lines_of, cells_of, table_of}
@@ -37,32 +39,32 @@ reads : (bytes : List ℕ) → is_strict bytes ≡ true → reading bytes ≡ Ok
 unfolding reading
 reads bytes e = rw e refl
 
-pub reading-not_laid_out : (bytes : List ℕ) → (is_laid_out bytes && nat_le (length (lines_of bytes)) 20002) ≡ false → reading bytes ≡ Err (record { line = 1; why = NotYet })
+pub reading-not_laid_out : (bytes : List ℕ) → (is_laid_out bytes && nat_le (length (lines_of bytes)) (ROW_LIMIT + 2)) ≡ false → reading bytes ≡ Err (record { line = 1; why = NotYet })
 unfolding is_strict
-reading-not_laid_out bytes e = refused bytes (elim (and_cases (is_laid_out bytes) (nat_le (length (lines_of bytes)) 20002) e) [
+reading-not_laid_out bytes e = refused bytes (elim (and_cases (is_laid_out bytes) (nat_le (length (lines_of bytes)) (ROW_LIMIT + 2)) e) [
   | inl not_laid_out ↦ and_left (is_laid_out bytes) (is_within_limits (spelt bytes)) not_laid_out
   | inr many ↦
-      let long : 20002 < length (lines_of bytes) = leb-false (length (lines_of bytes)) 20002 many in
-      and_right (is_laid_out bytes) (is_within_limits (spelt bytes)) (and_right (has_few_inputs (spelt bytes)) _ (lt-leb _ 20000 (omega (arith, count-spelt bytes))))
+      let long : ROW_LIMIT + 2 < length (lines_of bytes) = leb-false (length (lines_of bytes)) (ROW_LIMIT + 2) many in
+      and_right (is_laid_out bytes) (is_within_limits (spelt bytes)) (and_right (has_few_inputs (spelt bytes)) _ (lt-leb _ ROW_LIMIT (omega (arith, count-spelt bytes))))
 ])
 
 pub reading-crowded : (bytes : List ℕ) (tableau : Tableau) → tableau ≡ spelt bytes → has_few_inputs tableau ≡ false → reading bytes ≡ Err (record { line = 1; why = NotYet })
 unfolding is_strict
 reading-crowded bytes tableau is e = refused bytes (and_right (is_laid_out bytes) (is_within_limits (spelt bytes)) (and_left (has_few_inputs (spelt bytes)) _ (ap has_few_inputs (sym is) ∙ e)))
 
-pub reading-strict : (bytes : List ℕ) (tableau : Tableau) → tableau ≡ spelt bytes → (is_laid_out bytes && nat_le (length (lines_of bytes)) 20002) ≡ true → has_few_inputs tableau ≡ true → reading bytes ≡ Ok tableau
+pub reading-strict : (bytes : List ℕ) (tableau : Tableau) → tableau ≡ spelt bytes → (is_laid_out bytes && nat_le (length (lines_of bytes)) (ROW_LIMIT + 2)) ≡ true → has_few_inputs tableau ≡ true → reading bytes ≡ Ok tableau
 unfolding reading is_strict
 reading-strict bytes tableau is e few =
-    let parts = and_parts (is_laid_out bytes) (nat_le (length (lines_of bytes)) 20002) e in
-    let long = leb-true (length (lines_of bytes)) 20002 parts.1 in
-    let rows = le-leb (sum_by (λ input. length input.candidates) (spelt bytes).inputs) 20000 (omega (arith, count-spelt bytes)) in
+    let parts = and_parts (is_laid_out bytes) (nat_le (length (lines_of bytes)) (ROW_LIMIT + 2)) e in
+    let long = leb-true (length (lines_of bytes)) (ROW_LIMIT + 2) parts.1 in
+    let rows = le-leb (sum_by (λ input. length input.candidates) (spelt bytes).inputs) ROW_LIMIT (omega (arith, count-spelt bytes)) in
     rw (parts.0, ap has_few_inputs (sym is) ∙ few, rows) (ap Ok (sym is))
 
 -- what a file that is laid out has
 record IsLaidOut (bytes : List ℕ) : Type 0 where
   some_row : 3 ≤ length (table_of bytes)
   some_name : 1 ≤ constraint_count (table_of bytes)
-  few_names : constraint_count (table_of bytes) ≤ 64
+  few_names : constraint_count (table_of bytes) ≤ LIMIT
   candidates : has_candidates (table_of bytes) ≡ true
 
 laid_out : (bytes : List ℕ) → is_laid_out bytes ≡ true → IsLaidOut bytes
@@ -74,19 +76,19 @@ laid_out bytes e =
     let halves = and_parts (is_headed table && has_first_input table) (has_candidates table) spelt_out in
     let headed = (and_parts (is_headed table) (has_first_input table) halves.0).0 in
     let rectangular = (and_parts (is_rectangular table) _ (and_parts _ (has_header table) headed).0).0 in
-    let sized = (and_parts (nat_le 3 (length table) && nat_le 1 n && nat_le n 64) _ rectangular).0 in
-    let named = and_parts (nat_le 3 (length table) && nat_le 1 n) (nat_le n 64) sized in
+    let sized = (and_parts (nat_le 3 (length table) && nat_le 1 n && nat_le n LIMIT) _ rectangular).0 in
+    let named = and_parts (nat_le 3 (length table) && nat_le 1 n) (nat_le n LIMIT) sized in
     let long = and_parts (nat_le 3 (length table)) (nat_le 1 n) named.0 in
     record {
       some_row = leb-true 3 (length table) long.0;
       some_name = leb-true 1 n long.1;
-      few_names = leb-true n 64 named.1;
+      few_names = leb-true n LIMIT named.1;
       candidates = halves.1;
     }
 
-pub numeric-laid_out : (bytes : List ℕ) → (is_laid_out bytes && nat_le (length (lines_of bytes)) 20002) ≡ true → All (λ line. IsNumeric (cells_of line)) (drop 2 (lines_of bytes))
+pub numeric-laid_out : (bytes : List ℕ) → (is_laid_out bytes && nat_le (length (lines_of bytes)) (ROW_LIMIT + 2)) ≡ true → All (λ line. IsNumeric (cells_of line)) (drop 2 (lines_of bytes))
 numeric-laid_out bytes e =
-    let parts = laid_out bytes (and_parts (is_laid_out bytes) (nat_le (length (lines_of bytes)) 20002) e).0 in
+    let parts = laid_out bytes (and_parts (is_laid_out bytes) (nat_le (length (lines_of bytes)) (ROW_LIMIT + 2)) e).0 in
     let rows = AllPass-from_list_all (λ line. is_candidate (cells_of line)) (drop 2 (lines_of bytes)) (sym (has_candidates-table_of bytes) ∙ parts.candidates) in
     All-weaker (λ line. is_candidate (cells_of line) ≡ true) (λ line. IsNumeric (cells_of line)) (λ line h. numeric-candidate (cells_of line) h) (drop 2 (lines_of bytes)) rows
 
@@ -121,19 +123,19 @@ acceptable-spelt bytes e =
     let inputs = (spelt bytes).inputs in
     let halves = and_parts (is_laid_out bytes) (is_within_limits (spelt bytes)) e in
     let parts = laid_out bytes halves.0 in
-    let limits = and_parts (has_few_inputs (spelt bytes)) (nat_le (sum_by (λ input. length input.candidates) inputs) 20000) halves.1 in
-    let few = and_parts (nat_le (length inputs) 1000) (list_all (λ input. nat_le (length input.candidates) 200) inputs) limits.0 in
+    let limits = and_parts (has_few_inputs (spelt bytes)) (nat_le (sum_by (λ input. length input.candidates) inputs) ROW_LIMIT) halves.1 in
+    let few = and_parts (nat_le (length inputs) INPUT_LIMIT) (list_all (λ input. nat_le (length input.candidates) CANDIDATE_LIMIT) inputs) limits.0 in
     let made = made-spelt bytes parts in
-    let short = AllPass-from_list_all (λ input. nat_le (length input.candidates) 200) inputs few.1 in
-    let rows : All (AreRows n) inputs = λ k d l. record { some_candidate = (made k d l).some_candidate; few_candidates = leb-true _ 200 (short k d l); widths = (made k d l).widths } in
+    let short = AllPass-from_list_all (λ input. nat_le (length input.candidates) CANDIDATE_LIMIT) inputs few.1 in
+    let rows : All (AreRows n) inputs = λ k d l. record { some_candidate = (made k d l).some_candidate; few_candidates = leb-true _ CANDIDATE_LIMIT (short k d l); widths = (made k d l).widths } in
     let named = length-names n (slice_index_or (table_of bytes) 0 []) in
     record {
       some_name = omega (arith, parts.some_name);
       few_names = omega (arith, parts.few_names);
       abbreviated = length-names n (slice_index_or (table_of bytes) 1 []) ∙ sym named;
       some_input = some_input bytes parts;
-      few_inputs = leb-true (length inputs) 1000 few.0;
-      few_rows = leb-true _ 20000 limits.1;
+      few_inputs = leb-true (length inputs) INPUT_LIMIT few.0;
+      few_rows = leb-true _ ROW_LIMIT limits.1;
       rows = subst (λ width. All (AreRows width) inputs) (sym named) rows;
     }
 

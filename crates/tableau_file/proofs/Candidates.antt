@@ -6,6 +6,7 @@ use Rattle.std.proofs.lemmas.List.{get_or-drop, get_or_past, length-map, length-
 use Rattle.std.proofs.lemmas.List.Elements.{All-map}
 use Rattle.std.proofs.lemmas.List.FromFn.{length-range_with_len, get_or-range_with_len}
 use Rattle.std.proofs.lemmas.List.Sums.{AllPass-from_list_all}
+use Rattle.tableau_file.specs.declared.limits.TheConstants.{VIOLATION_LIMIT}
 use Rattle.tableau_file.specs.Numbers.{is_digit, is_short_number, value_of, IsNumber}
 use Rattle.tableau_file.specs.Rows.{cell, is_empty, constraint_cells, candidate_of, IsNumeric}
 use Rattle.tableau_file.specs.Acceptable.{IsRow}
@@ -20,19 +21,18 @@ short-number text h =
 violation-at : (cells : List (List ℕ)) → list_all is_violation (drop 3 cells) ≡ true → (column : ℕ) → 3 ≤ column → (cell cells column ≡ []) ⊎ (is_violation (cell cells column) ≡ true)
 violation-at cells h column l = elim (cases_lt column (length cells)) [
   | inl within ↦
-      let k = column - 3 in
       let at : cell cells column ≡ slice_index_or (drop 3 cells) (column - 3) [] = ap (cell cells) (omega arith) ∙ sym (get_or-drop 3 cells (column - 3) []) in
       inr (ap is_violation at ∙ AllPass-from_list_all is_violation (drop 3 cells) h (column - 3) [] (omega (arith, length-drop 3 cells)))
   | inr past ↦ inl (get_or_past cells column [] past)
 ]
 
-violation-number : (text : List ℕ) → (text ≡ []) ⊎ (is_violation text ≡ true) → IsNumber text × (value_of text ≤ 1000000)
+violation-number : (text : List ℕ) → (text ≡ []) ⊎ (is_violation text ≡ true) → IsNumber text × (value_of text ≤ VIOLATION_LIMIT)
 violation-number text (inl none) = rw none (record { short = omega arith; digits = refl }, omega arith)
 violation-number text (inr some) =
-    let parts = and_parts (is_short_number text) (nat_le (value_of text) 1000000) some in
-    (short-number text parts.0, leb-true (value_of text) 1000000 parts.1)
+    let parts = and_parts (is_short_number text) (nat_le (value_of text) VIOLATION_LIMIT) some in
+    (short-number text parts.0, leb-true (value_of text) VIOLATION_LIMIT parts.1)
 
-column-number : (cells : List (List ℕ)) → is_candidate cells ≡ true → (column : ℕ) → 3 ≤ column → IsNumber (cell cells column) × (value_of (cell cells column) ≤ 1000000)
+column-number : (cells : List (List ℕ)) → is_candidate cells ≡ true → (column : ℕ) → 3 ≤ column → IsNumber (cell cells column) × (value_of (cell cells column) ≤ VIOLATION_LIMIT)
 column-number cells h column l =
     let parts = and_parts (not (is_empty (cell cells 1)) && is_short_number (cell cells 2)) (list_all is_violation (drop 3 cells)) h in
     violation-number (cell cells column) (violation-at cells parts.1 column l)
@@ -51,9 +51,9 @@ numeric-candidate cells h = record {
 
 pub row-candidate : (n line : ℕ) (cells : List (List ℕ)) → is_candidate cells ≡ true → IsRow n (candidate_of n line cells)
 row-candidate n line cells h =
-    let within : (k d : ℕ) → k < length (range_with_len 3 n) → value_of (cell cells (slice_index_or (range_with_len 3 n) k d)) ≤ 1000000 =
+    let within : (k d : ℕ) → k < length (range_with_len 3 n) → value_of (cell cells (slice_index_or (range_with_len 3 n) k d)) ≤ VIOLATION_LIMIT =
     λ k d l. (column-number cells h _ (omega (arith, get_or-range_with_len 3 n k d (omega (arith, length-range_with_len 3 n))))).1 in
     record {
       width = length-map (constraint_cells n cells) value_of ∙ length-map (range_with_len 3 n) (cell cells) ∙ length-range_with_len 3 n;
-      bounded = All-map (λ violation. violation ≤ 1000000) value_of (constraint_cells n cells) (All-map (λ text. value_of text ≤ 1000000) (cell cells) (range_with_len 3 n) within);
+      bounded = All-map (λ violation. violation ≤ VIOLATION_LIMIT) value_of (constraint_cells n cells) (All-map (λ text. value_of text ≤ VIOLATION_LIMIT) (cell cells) (range_with_len 3 n) within);
     }

@@ -83,13 +83,7 @@ fn is_rectangular(bytes: &[u8]) -> bool
 fn has_width(bytes: &[u8], width: usize) -> bool
     ensures { result ≡ list_all (λ line. length (cells_of line) == width) (lines_of bytes.now) }
 {
-    Lines::of(bytes).all(|line| has_cells(line, width))
-}
-
-fn has_cells(line: &[u8], count: usize) -> bool
-    ensures { result ≡ (length (cells_of line.now) == count) }
-{
-    column_count(line) == count
+    Lines::of(bytes).all(|line| column_count(line) == width)
 }
 
 fn has_trimmed_cells(bytes: &[u8]) -> bool
