@@ -52,7 +52,10 @@ fn each_write_may_fail(rt: HostRuntime) -> Result<(), Fail> {
         if call <= writes {
             let length = report.len().min((call as usize - 1).saturating_mul(16));
             assert_eq!(rt; left.status, Status::WriteFault, "call {call}");
-            assert!(rt; Some(left.out.written()) == report.get(..length), "call {call}");
+            assert!(rt;
+                Some(left.out.written()) == report.get(..length),
+                "call {call}"
+            );
             assert!(rt; left.err.written() == UNWRITTEN, "call {call}");
         } else {
             assert_eq!(rt; left.status, Status::Done);
@@ -94,11 +97,25 @@ fn bad_files_are_told(rt: HostRuntime) -> Result<(), Fail> {
     let rows: [(&str, &[u8], Status, &str); 4] = [
         ("a.txt", windows, Status::Refused, "a.txt:1: F0 NotYet\n"),
         ("a.txt", b"", Status::Refused, "a.txt:1: F0 NotYet\n"),
-        ("b.txt", windows, Status::ReadFault, "otsoft: b.txt could not be read\n"),
-        ("", windows, Status::ReadFault, "otsoft:  could not be read\n"),
+        (
+            "b.txt",
+            windows,
+            Status::ReadFault,
+            "otsoft: b.txt could not be read\n",
+        ),
+        (
+            "",
+            windows,
+            Status::ReadFault,
+            "otsoft:  could not be read\n",
+        ),
     ];
     for (name, file, status, line) in &rows {
-        let left = run_on(rt.alloc(), &["typology", name], &Outside::sound("a.txt", file))?;
+        let left = run_on(
+            rt.alloc(),
+            &["typology", name],
+            &Outside::sound("a.txt", file),
+        )?;
         assert_eq!(rt; left.status, *status, "{line}");
         assert!(rt; left.out.written().is_empty(), "{line}");
         assert!(rt; left.err.written() == line.as_bytes(), "{line}");

@@ -41,11 +41,7 @@ pub(crate) struct Left {
 }
 
 /// Runs the words.
-pub(crate) fn run_on(
-    alloc: Global,
-    words: &[&str],
-    outside: &Outside,
-) -> Result<Left, NoMemory> {
+pub(crate) fn run_on(alloc: Global, words: &[&str], outside: &Outside) -> Result<Left, NoMemory> {
     let mut files = files_of(alloc, outside)?;
     let mut out = MemSink::with_room(
         alloc,

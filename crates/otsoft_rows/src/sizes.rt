@@ -14,10 +14,16 @@ fn two_classes(alloc: Global, inputs: usize) -> Result<String, AllocError> {
 
 /// Its report: where B stands above A each input has its first class, else its second.
 fn two_languages(alloc: Global, inputs: usize) -> Result<String, AllocError> {
-    let mut report = String::from_str(alloc, "otsoft report 1\ttypology\nconstraints\t2\nconstraint\t1\tA\tA\nconstraint\t2\tB\tB\n")?;
+    let mut report = String::from_str(
+        alloc,
+        "otsoft report 1\ttypology\nconstraints\t2\nconstraint\t1\tA\tA\nconstraint\t2\tB\tB\n",
+    )?;
     write!(report, "inputs\t{inputs}\n")?;
     for k in 1..=inputs {
-        write!(report, "input\t{k}\ti{k}\t2\nclass\t{k}.1\t1 0\tp\nclass\t{k}.2\t0 1\tq\n")?;
+        write!(
+            report,
+            "input\t{k}\ti{k}\t2\nclass\t{k}.1\t1 0\tp\nclass\t{k}.2\t0 1\tq\n"
+        )?;
     }
     report.push_str("languages\t2\n")?;
     for (class, hierarchy) in [(1, "2 | 1"), (2, "1 | 2")] {
@@ -32,7 +38,11 @@ fn two_languages(alloc: Global, inputs: usize) -> Result<String, AllocError> {
 }
 
 fn typology_of(alloc: Global, file: &str) -> Result<Left, erc_vectors::NoMemory> {
-    run_on(alloc, &["typology", "a.txt"], &Outside::sound("a.txt", file.as_bytes()))
+    run_on(
+        alloc,
+        &["typology", "a.txt"],
+        &Outside::sound("a.txt", file.as_bytes()),
+    )
 }
 
 /// Sixteen inputs of two classes have 65,536 choices, all of which are tried, and seventeen have too many.

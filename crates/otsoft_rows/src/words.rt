@@ -52,7 +52,10 @@ fn bad_words_open_no_file(rt: HostRuntime) -> Result<(), Fail> {
         assert_eq!(rt; status, Status::BadWords, "{words:?}");
         assert_eq!(rt; files.opens, 0, "{words:?}");
         assert!(rt; out.written().is_empty(), "{words:?}");
-        assert!(rt; err.written() == b"usage: otsoft COMMAND FILE [OPTIONS]\n".as_slice(), "{words:?}");
+        assert!(rt;
+            err.written() == b"usage: otsoft COMMAND FILE [OPTIONS]\n".as_slice(),
+            "{words:?}"
+        );
     }
     Ok(())
 }
