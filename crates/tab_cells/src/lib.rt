@@ -1,0 +1,2 @@
+//! Lines and cells of tab-separated files.
+#![tactic(auto)]
