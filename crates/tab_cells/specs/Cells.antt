@@ -1,10 +1,16 @@
 -- A line as cells, and the text of a cell.
-use Rattle.std.specs.Prelude.{ℕ, ◌-◌, List, [], ◌∷◌, Bool, ◌&&◌, ◌==◌, nat_le, length, take, drop, slice_index, if◌then◌else◌}
+use Rattle.std.specs.Prelude.{ℕ, ◌-◌, List, [], ◌∷◌, Bool, false, ◌&&◌, ◌||◌, ◌==◌, Option, None, Some, nat_le, length, take, drop, slice_index, if◌then◌else◌}
 use Rattle.std.specs.List.{slice_split, prefix_len, suffix_len}
+use denote.Ref.{Bor}
 
 -- the pieces of a line between its tabs
 abbrev pub cells_of : List ℕ → List (List ℕ)
 cells_of line = slice_split (λ c. c == 9) line
+
+-- the cells of what is left of a line, which is nothing after the last cell
+abbrev pub cells_left : Option (Bor (List ℕ)) → List (List ℕ)
+cells_left None = []
+cells_left (Some rest) = cells_of rest.now
 
 abbrev pub is_space : ℕ → Bool
 is_space c = c == 32
@@ -38,3 +44,13 @@ single_quotes (c ∷ d ∷ rest) = if (c == 34) && (d == 34) then 34 ∷ single_
 -- quotes as one, again without the spaces at both ends.
 unfoldable pub text_of : List ℕ → List ℕ
 text_of cell = if is_quoted (trimmed cell) then trimmed (single_quotes (inside (trimmed cell))) else trimmed cell
+
+-- two quotes stand side by side
+abbrev pub has_pair : List ℕ → Bool
+has_pair [] = false
+has_pair (c ∷ []) = false
+has_pair (c ∷ d ∷ rest) = ((c == 34) && (d == 34)) || has_pair (d ∷ rest)
+
+-- a pair of quotes inside a quoted cell becomes one quote
+unfoldable pub loses_quote : List ℕ → Bool
+loses_quote cell = is_quoted (trimmed cell) && has_pair (inside (trimmed cell))

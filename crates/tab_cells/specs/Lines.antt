@@ -1,5 +1,5 @@
 -- The bytes of a file as lines.
-use Rattle.std.specs.Prelude.{ℕ, List, [], ◌∷◌, ◌==◌, if◌then◌else◌}
+use Rattle.std.specs.Prelude.{ℕ, List, [], ◌∷◌, ◌&&◌, ◌==◌, if◌then◌else◌}
 use Rattle.std.specs.List.{onto_first}
 
 -- each CR LF, and each CR that no LF follows, as one LF
@@ -20,3 +20,9 @@ fed_lines (c ∷ rest) = if c == 10 then [] ∷ fed_lines rest else onto_first c
 -- not empty.
 unfoldable pub lines_of : List ℕ → List (List ℕ)
 lines_of bytes = fed_lines (with_line_feeds bytes)
+
+-- what stands after the line end with which the bytes begin
+abbrev pub after_end : List ℕ → List ℕ
+after_end [] = []
+after_end (c ∷ []) = []
+after_end (c ∷ d ∷ rest) = if (c == 13) && (d == 10) then rest else d ∷ rest
