@@ -40,6 +40,12 @@ single_quotes [] = []
 single_quotes (c ∷ []) = c ∷ []
 single_quotes (c ∷ d ∷ rest) = if (c == 34) && (d == 34) then 34 ∷ single_quotes rest else c ∷ single_quotes (d ∷ rest)
 
+-- what stands after the first byte, or after the pair of quotes with which the text begins
+abbrev pub after_quote : List ℕ → List ℕ
+after_quote [] = []
+after_quote (c ∷ []) = []
+after_quote (c ∷ d ∷ rest) = if (c == 34) && (d == 34) then rest else d ∷ rest
+
 -- The text of a cell: without the spaces at both ends; where the rest is quoted, what stands inside with each pair of
 -- quotes as one, again without the spaces at both ends.
 unfoldable pub text_of : List ℕ → List ℕ

@@ -40,6 +40,7 @@ impl<'a> Iterator for Lines<'a> {
 
     ghost remaining = { item_count (λ lines. lines) };
 
+    #[tactic(auto, using(crate::proofs::FirstLine::lines_of_none))]
     fn next(&mut self) -> Option<&'a [u8]> {
         if self.rest.is_empty() {
             return None;

@@ -1,10 +1,11 @@
 //! The text of a cell.
 
-ghost use Rattle.std.specs.Prelude.{◌≡◌, ◌∷◌, ◌++◌, ◌==◌, true, false, length, IsTrue, IfOk, OnErr, MatchOption};
-ghost use Rattle.tab_cells.specs.Cells.{trimmed, trimmed_start, trimmed_end, is_quoted, inside, single_quotes, has_pair, loses_quote, text_of};
+ghost use Rattle.std.specs.Prelude.{◌≡◌, ◌<◌, ◌∷◌, ◌++◌, ◌==◌, true, false, length, IsTrue, IfOk, OnErr, MatchOption};
+ghost use Rattle.tab_cells.specs.Cells.{trimmed, trimmed_start, trimmed_end, is_quoted, inside, single_quotes, after_quote, has_pair, loses_quote, text_of};
 ghost use Rattle.tab_cells.specs.CellText.{text_in, is_made};
 
 use erc_vectors::{List, NoMemory};
+use memchr::memmem;
 use ot_base::Label;
 use std::alloc::Global;
 
@@ -30,6 +31,7 @@ impl<'a> CellText<'a> {
 /// dropped, each pair of quotes inside becomes one quote, and the spaces at both ends are cut off again.
 ///
 /// It takes memory only where a pair of quotes becomes one quote. `Made` comes exactly there.
+#[tactic(auto, using(crate::proofs::TextOf::text_cases))]
 pub fn unquote(alloc: Global, cell: &[u8]) -> Result<CellText<'_>, NoMemory>
     ensures text { IfOk result (λ text. text_in text ≡ text_of cell.now) }
     ensures made { IfOk result (λ text. is_made text ≡ loses_quote cell.now) }
@@ -48,6 +50,7 @@ pub fn unquote(alloc: Global, cell: &[u8]) -> Result<CellText<'_>, NoMemory>
 }
 
 /// Whether the text of a cell is empty. It takes no memory.
+#[tactic(auto, using(crate::proofs::TextOf::text_cases))]
 pub fn is_empty_cell(cell: &[u8]) -> bool
     ensures { result ≡ (length (text_of cell.now) == 0) }
 {
@@ -96,7 +99,7 @@ fn between_quotes(text: &[u8]) -> Option<&[u8]>
 fn has_pair(text: &[u8]) -> bool
     ensures { result ≡ has_pair text.now }
 {
-    text.windows(2).any(|pair| pair == b"\"\"".as_slice())
+    memmem::find(text, b"\"\"").is_some()
 }
 
 /// The text with each pair of quotes, from left to right, as one quote.
@@ -105,11 +108,19 @@ fn single_quotes(alloc: Global, text: &[u8]) -> Result<List<u8>, NoMemory>
 {
     let mut singled = List::new(alloc);
     let mut rest = text;
-    while let [first, after @ ..] = rest {
+    while let Some(first) = rest.first() {
         singled.push(*first)?;
-        rest = rest.strip_prefix(b"\"\"").unwrap_or(after);
+        rest = after_quote(rest);
     }
     Ok(singled)
+}
+
+/// What stands after the first byte, or after the pair of quotes with which the text begins.
+fn after_quote(text: &[u8]) -> &[u8]
+    requires { 0 < length text.now }
+    ensures { result.now ≡ after_quote text.now }
+{
+    text.strip_prefix(b"\"\"").unwrap_or(&text[1..])
 }
 
 #[cfg(test)]
