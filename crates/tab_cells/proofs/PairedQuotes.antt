@@ -1,5 +1,5 @@
 -- Pairs of quotes in a text.
-use Rattle.std.proofs.Common.{◌≡◌, ℕ, zero, suc, ◌+◌, ◌<◌, ◌≤◌, Bool, false, true, ◌==◌, ◌&&◌, ◌⊎◌, List, [], ◌∷◌, length, slice_index, arith, inl, inr, ap, refl, sym, None, Some}
+use Rattle.std.proofs.Common.{◌≡◌, ℕ, zero, suc, ◌+◌, ◌<◌, ◌≤◌, Bool, false, true, ◌==◌, ◌&&◌, ◌⊎◌, List, [], ◌∷◌, ◌++◌, append_assoc, length, slice_index, arith, inl, inr, ap, refl, sym, None, Some}
 use Rattle.std.specs.Prelude.{Option, is_some}
 use Rattle.std.specs.List.{list_all}
 use Rattle.std.proofs.lemmas.Bool.Decides.{eqb_tells}
@@ -56,9 +56,11 @@ pub has_pair-found : (text : List ℕ) (place : Option ℕ) → FindsNeedle text
 has_pair-found text None none = sym (has_pair-nowhere text (λ place found. none place (omega arith) (omega (arith, found.fits)) found))
 has_pair-found text (Some place) found = sym (has_pair-occurs text place found.1)
 
-pub single_quotes-first : (c : ℕ) (rest : List ℕ) → single_quotes (c ∷ rest) ≡ c ∷ single_quotes (after_quote (c ∷ rest))
-single_quotes-first c [] = refl
-single_quotes-first c (d ∷ rest) = elim (pair_tells c d) [ inl pair ↦ rw (pair.0, pair.1) refl | inr other ↦ rw other.0 refl ]
+-- the first byte stays, and goes on behind it or behind the pair
+pub single_quotes_step : (made text : List ℕ) → 0 < length text → (made ++ slice_index text 0 ∷ []) ++ single_quotes (after_quote text) ≡ made ++ single_quotes text
+single_quotes_step made [] some = absurd (omega arith)
+single_quotes_step made (c ∷ []) some = rw append_assoc refl
+single_quotes_step made (c ∷ d ∷ rest) some = rw append_assoc (elim (pair_tells c d) [ inl pair ↦ rw (pair.0, pair.1) refl | inr other ↦ rw other.0 refl ])
 
 -- a text without a pair stays as it is
 pub single_quotes-same : (text : List ℕ) → has_pair text ≡ false → single_quotes text ≡ text

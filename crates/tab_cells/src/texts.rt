@@ -103,6 +103,7 @@ fn has_pair(text: &[u8]) -> bool
 }
 
 /// The text with each pair of quotes, from left to right, as one quote.
+#[tactic(auto, using(crate::proofs::PairedQuotes::single_quotes_step))]
 fn single_quotes(alloc: Global, text: &[u8]) -> Result<List<u8>, NoMemory>
     ensures { IfOk result (λ singled. singled ≡ single_quotes text.now) }
 {
