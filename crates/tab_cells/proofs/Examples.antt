@@ -1,5 +1,5 @@
 -- Worked lines and cells.
-use Rattle.std.proofs.Common.{◌≡◌, List, [], ◌∷◌, refl}
+use Rattle.std.proofs.Common.{◌≡◌, [], ◌∷◌, refl}
 use Rattle.std.specs.Prelude.{codes}
 use Rattle.tab_cells.specs.Lines.{lines_of}
 use Rattle.tab_cells.specs.Cells.{text_of}

@@ -1,5 +1,5 @@
 -- Pairs of quotes in a text.
-use Rattle.std.proofs.Common.{◌≡◌, ℕ, zero, suc, ◌+◌, ◌<◌, ◌≤◌, Bool, false, true, ◌==◌, ◌&&◌, ◌⊎◌, List, [], ◌∷◌, ◌++◌, append_assoc, length, slice_index, arith, inl, inr, ap, refl, sym, None, Some}
+use Rattle.std.proofs.Common.{◌≡◌, ℕ, zero, suc, ◌+◌, ◌<◌, ◌≤◌, false, true, ◌==◌, ◌&&◌, ◌⊎◌, List, [], ◌∷◌, ◌++◌, append_assoc, length, slice_index, arith, inl, inr, ap, refl, sym, None, Some}
 use Rattle.std.specs.Prelude.{Option, is_some}
 use Rattle.std.specs.List.{list_all}
 use Rattle.std.proofs.lemmas.Bool.Decides.{eqb_tells}
@@ -26,7 +26,7 @@ OccursAt-first c d rest a b = record { fits = omega arith; reads = rw (a, b) (be
 OccursAt-later : (c : ℕ) (text : List ℕ) (place : ℕ) → OccursAt text (34 ∷ 34 ∷ []) place → OccursAt (c ∷ text) (34 ∷ 34 ∷ []) (suc place)
 OccursAt-later c text place found = record {
   fits = omega (arith, found.fits);
-  reads = λ j low. let next : suc place + j ≡ suc (place + j) = omega arith in rw next (found.reads j low)
+  reads = λ j low. let next : suc place + j ≡ suc (place + j) = omega arith in rw next (found.reads j low);
 }
 
 has_pair-occurs : (text : List ℕ) (place : ℕ) → OccursAt text (34 ∷ 34 ∷ []) place → has_pair text ≡ true
@@ -39,7 +39,7 @@ has_pair-occurs (c ∷ d ∷ rest) zero found =
 has_pair-occurs (c ∷ d ∷ rest) (suc place) found =
     let earlier : OccursAt (d ∷ rest) (34 ∷ 34 ∷ []) place = record {
       fits = omega (arith, found.fits);
-      reads = λ j low. let next : suc place + j ≡ suc (place + j) = omega arith in rw next at (found.reads j low)
+      reads = λ j low. let next : suc place + j ≡ suc (place + j) = omega arith in rw next at (found.reads j low);
     } in
     elim (pair_tells c d) [ inl pair ↦ rw pair.0 refl | inr other ↦ rw other.0 (has_pair-occurs (d ∷ rest) place earlier) ]
 

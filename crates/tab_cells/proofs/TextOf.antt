@@ -1,5 +1,5 @@
 -- The text of a cell, by what stands between the spaces at its ends.
-use Rattle.std.proofs.Common.{◌≡◌, Bool, true, false, ◌==◌, ℕ, List, length, refl, ap, sym, ◌∙◌}
+use Rattle.std.proofs.Common.{◌≡◌, true, false, ◌==◌, ℕ, List, length, refl, ap, sym, ◌∙◌}
 use Rattle.tab_cells.specs.Cells.{trimmed, is_quoted, inside, single_quotes, has_pair, loses_quote, text_of}
 use Rattle.tab_cells.proofs.PairedQuotes.{single_quotes-same, all_spaces-single_quotes}
 use Rattle.tab_cells.proofs.Trimmed.{trimmed-empty}

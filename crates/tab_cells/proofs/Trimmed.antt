@@ -1,5 +1,5 @@
 -- Texts without the spaces at their ends.
-use Rattle.std.proofs.Common.{◌≡◌, ℕ, suc, ◌+◌, ◌-◌, ◌<◌, ◌≤◌, Bool, false, true, ◌==◌, List, [], ◌∷◌, length, take, drop, slice_index, reverse, arith, inl, inr, ap, refl, sym, ◌∙◌, take_all}
+use Rattle.std.proofs.Common.{◌≡◌, ℕ, suc, ◌+◌, ◌-◌, ◌≤◌, false, true, ◌==◌, List, [], ◌∷◌, length, slice_index, reverse, arith, inl, inr, ap, refl, ◌∙◌, take_all}
 use Rattle.std.specs.List.{list_all, prefix_len, suffix_len}
 use Rattle.std.proofs.lemmas.Bool.Decides.{eqb_tells, leb_tells}
 use Rattle.std.proofs.lemmas.List.{get_or-reverse, length-take-le}

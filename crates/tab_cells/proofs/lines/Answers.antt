@@ -1,4 +1,3 @@
-use Rattle.std.proofs.Common.{ap, length}
 use Rattle.tab_cells.proofs.FirstLine.{length-lines_of-le}
 use Rattle.tab_cells.proofs.lines.Goals as goal
 

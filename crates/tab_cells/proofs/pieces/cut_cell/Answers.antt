@@ -1,4 +1,4 @@
-use Rattle.std.proofs.Common.{◌+◌, arith}
+use Rattle.std.proofs.Common.{◌+◌}
 use Rattle.std.proofs.lemmas.List.{take_rest}
 use Rattle.tab_cells.proofs.FirstCell.{cells_of-cut, cells_of-uncut}
 use Rattle.tab_cells.proofs.pieces.cut_cell.Goals as goal

@@ -1,6 +1,4 @@
-use Rattle.std.proofs.Common.{ap, ◌∙◌, sym, ◌∷◌, take}
 use Rattle.std.proofs.lemmas.List.{take_rest}
-use Rattle.tab_cells.specs.Lines.{lines_of, after_end}
 use Rattle.tab_cells.proofs.FirstLine.{lines_of-cut, lines_of-uncut}
 use Rattle.tab_cells.proofs.pieces.cut_line.Goals as goal
 

@@ -1,4 +1,4 @@
-use Rattle.std.proofs.Common.{ℕ, ◌<◌, length, drop, sym, ap, ◌∙◌, rules, arith, drop_of_length-le}
+use Rattle.std.proofs.Common.{◌<◌, length, drop, sym, ap, ◌∙◌, rules, arith, drop_of_length-le}
 use Rattle.std.proofs.lemmas.List.{take_rest}
 use Rattle.std.proofs.lemmas.List.Sums.{prefix_len_is}
 use Rattle.tab_cells.specs.Cells.{is_space}
