@@ -1,0 +1,6 @@
+pub mod Examples
+pub mod FirstLine
+pub mod FirstCell
+pub mod PairedQuotes
+pub mod Trimmed
+pub mod TextOf
