@@ -68,19 +68,18 @@ fn each_write_may_fail(rt: HostRuntime) -> Result<(), Fail> {
 /// The status stays, and nothing stands on a fault output that takes nothing.
 #[test]
 fn a_fault_of_the_fault_output_changes_no_status(rt: HostRuntime) -> Result<(), Fail> {
-    let refused = b"\t\t\tA\r\n".as_slice();
-    let rows: [(&[&str], &[u8], Status); 3] = [
-        (&["frob"], refused, Status::BadWords),
-        (&WORDS, refused, Status::Refused),
-        (&["typology", "b.txt"], refused, Status::ReadFault),
+    let rows: [(&[&str], Status); 3] = [
+        (&["frob"], Status::BadWords),
+        (&WORDS, Status::Refused),
+        (&["typology", "b.txt"], Status::ReadFault),
     ];
-    for (words, file, status) in &rows {
+    for (words, status) in &rows {
         let left = run_on(
             rt.alloc(),
             words,
             &Outside {
                 err_fails: &[1],
-                ..Outside::sound("a.txt", file)
+                ..Outside::sound("a.txt", b"\t\t\tA")
             },
         )?;
         assert_eq!(rt; left.status, *status, "{words:?}");
@@ -90,35 +89,62 @@ fn a_fault_of_the_fault_output_changes_no_status(rt: HostRuntime) -> Result<(), 
     Ok(())
 }
 
-/// Files that are refused or not there, with their lines.
+/// Files that are not there, with their lines.
 #[test]
-fn bad_files_are_told(rt: HostRuntime) -> Result<(), Fail> {
-    let windows = b"\t\t\tA\r\n\t\t\tA\r\nx\tp\t1\t1\r\n".as_slice();
-    let rows: [(&str, &[u8], Status, &str); 4] = [
-        ("a.txt", windows, Status::Refused, "a.txt:1: F0 NotYet\n"),
-        ("a.txt", b"", Status::Refused, "a.txt:1: F0 NotYet\n"),
-        (
-            "b.txt",
-            windows,
-            Status::ReadFault,
-            "otsoft: b.txt could not be read\n",
-        ),
-        (
-            "",
-            windows,
-            Status::ReadFault,
-            "otsoft:  could not be read\n",
-        ),
+fn missing_files_are_told(rt: HostRuntime) -> Result<(), Fail> {
+    let rows = [
+        ("b.txt", "otsoft: b.txt could not be read\n"),
+        ("", "otsoft:  could not be read\n"),
     ];
-    for (name, file, status, line) in &rows {
+    for (name, line) in &rows {
         let left = run_on(
             rt.alloc(),
             &["typology", name],
-            &Outside::sound("a.txt", file),
+            &Outside::sound("a.txt", b""),
         )?;
-        assert_eq!(rt; left.status, *status, "{line}");
+        assert_eq!(rt; left.status, Status::ReadFault, "{line}");
         assert!(rt; left.out.written().is_empty(), "{line}");
         assert!(rt; left.err.written() == line.as_bytes(), "{line}");
+    }
+    Ok(())
+}
+
+/// Files with a fault, each with the first one.
+#[test]
+fn refused_files_are_told(rt: HostRuntime) -> Result<(), Fail> {
+    let rows: [(&[u8], &str); 10] = [
+        (b"\xff\xfe\t\0A\0", "a.txt:1: F1 Utf16\n"),
+        (b"", "a.txt:1: F2 NoConstraints\n"),
+        (b"\t\t\tA\t\tC\n\nx\tp", "a.txt:1: F3 EmptyName\n"),
+        (b"\t\t\tA\n\t\t\tA\tB\nx\tp", "a.txt:2: F5 ExtraCell\n"),
+        (b"\t\t\tA\n\n\tx", "a.txt:3: F6 NoInput\n"),
+        (b"\t\t\tA\n\nx", "a.txt:3: F7 EmptyCandidate\n"),
+        (b"\t\t\tA\n\n\r\nx\tp\t1.\t2x", "a.txt:4: F8 BadCount\n"),
+        (b"\t\t\tA\n\nx\tp\t1\t2x\t3", "a.txt:3: F9 BadViolation\n"),
+        (b"\t\t\tA\n\nx\tp\t1\t2\t3", "a.txt:3: F5 ExtraCell\n"),
+        (b"\t\t\tA", "a.txt:3: F12 NoRows\n"),
+    ];
+    for (file, line) in &rows {
+        let left = run_on(rt.alloc(), &WORDS, &Outside::sound("a.txt", file))?;
+        assert_eq!(rt; left.status, Status::Refused, "{line}");
+        assert!(rt; left.out.written().is_empty(), "{line}");
+        assert!(rt; left.err.written() == line.as_bytes(), "{line}");
+    }
+    Ok(())
+}
+
+/// With any allocation refused, the report stands whole or the output is as it was.
+#[test]
+fn want_of_memory_leaves_the_output(rt: HostRuntime) -> Result<(), Fail> {
+    let outside = Outside::sound("a.txt", CODA.file.as_bytes());
+    let Ok(left) = run_on(rt.alloc(), &WORDS, &outside) else {
+        return Ok(());
+    };
+    if left.status == Status::NoMemory {
+        assert!(rt; left.out.written().is_empty());
+    } else {
+        assert_eq!(rt; left.status, Status::Done);
+        assert!(rt; left.out.written() == CODA.report.as_bytes());
     }
     Ok(())
 }

@@ -73,10 +73,58 @@ const ALONE: Row = Row {
     report: "otsoft report 1\ttypology\nconstraints\t3\nconstraint\t1\tA\tA\nconstraint\t2\tB\tB\nconstraint\t3\tC\tC\ninputs\t1\ninput\t1\tx\t1\nclass\t1.1\t0 0 0\tp\nlanguages\t1\nlanguage\t1\t1\t1 2 3\nend\n",
 };
 
+/// The same chain with cells that are left out, as they may be.
+const CHAIN_LEFT_OUT: Row = Row {
+    name: "a chain with cells left out",
+    file: "\t\t\tA\tB\tC\n\t\t\tA\tB\tC\nx\tp\t1\t\t1\t\n\tq\t\t1\t\t\ny\tr\t1\t\t\t1\n\ts\t\t\t1\t\n",
+    report: CHAIN.report,
+};
+
+/// The syllables with cells that are left out.
+const SYLLABLES_LEFT_OUT: Row = Row {
+    name: "syllables with cells left out",
+    file: "\t\t\tOnset\tNoCoda\tMax\tDep\n\t\t\tOns\tNoC\tMax\tDep\na\t.a.\t1\t1\t\t\t\n\t.ta.\t\t\t\t\t1\n\t<a>\t\t\t\t1\t\ntat\t.tat.\t1\t\t1\t\t\n\t.ta.ta.\t\t\t\t\t1\n\t.ta.\t\t\t\t1\t\n",
+    report: SYLLABLES.report,
+};
+
+/// A file as a spreadsheet saves it: quotes, CR LF, blank lines, and cells past the last that is used.
+const SPREADSHEET: Row = Row {
+    name: "a spreadsheet's file",
+    file: "\t\t\t\"Ident, voice\"\tNoVoice\t\r\n\t\t\tId\tNV\t\r\nbad\tbad\t12\t\t2\t\r\n\tbat\t3\t1\t1\t\r\n\t\t\t\t\t\r\n\r\n",
+    report: "otsoft report 1\ttypology\nconstraints\t2\nconstraint\t1\tId\tIdent, voice\nconstraint\t2\tNV\tNoVoice\ninputs\t1\ninput\t1\tbad\t2\nclass\t1.1\t0 2\tbad\nclass\t1.2\t1 1\tbat\nlanguages\t2\nlanguage\t1\t1\t1 | 2\nlanguage\t2\t2\t2 | 1\nend\n",
+};
+
+/// A byte order mark, and CR as the end of each line.
+const OLD_MACHINE: Row = Row {
+    name: "a byte order mark and carriage returns",
+    file: "\u{feff}\t\t\tNoCoda\tMax\tDep\r\t\t\tNoCoda\tMax\tDep\rpat\tpat\t1\t1\t0\t0\r\tpa\t0\t0\t1\t0\r\tpa.ti\t0\t0\t0\t1\r",
+    report: CODA.report,
+};
+
+/// The least that a file may have: no abbreviation, no violation, no line end.
+const LEAST: Row = Row {
+    name: "the least file",
+    file: "\t\t\tA\n\nx\t\"p\"\"q\"\t1",
+    report: "otsoft report 1\ttypology\nconstraints\t1\nconstraint\t1\tA\tA\ninputs\t1\ninput\t1\tx\t1\nclass\t1.1\t0\tp\"q\nlanguages\t1\nlanguage\t1\t1\t1\nend\n",
+};
+
 #[test]
 fn files_give_their_reports(rt: HostRuntime) -> Result<(), Fail> {
     let rows = [
-        CODA, TWO_CODAS, CHAIN, BOUNDED, SYLLABLES, MIDDLE, WORSE, ALIKE, ALONE,
+        CODA,
+        TWO_CODAS,
+        CHAIN,
+        BOUNDED,
+        SYLLABLES,
+        MIDDLE,
+        WORSE,
+        ALIKE,
+        ALONE,
+        CHAIN_LEFT_OUT,
+        SYLLABLES_LEFT_OUT,
+        SPREADSHEET,
+        OLD_MACHINE,
+        LEAST,
     ];
     for row in &rows {
         let name = row.name;

@@ -110,3 +110,42 @@ fn a_file_is_read_to_its_end(rt: HostRuntime) -> Result<(), Fail> {
     }
     Ok(())
 }
+
+/// A file of as many constraints, and one candidate.
+fn many_constraints(alloc: Global, constraints: usize) -> Result<String, AllocError> {
+    let mut file = String::from_str(alloc, "\t\t")?;
+    for k in 1..=constraints {
+        write!(file, "\tC{k}")?;
+    }
+    file.push_str("\n\nx\tp\n")?;
+    Ok(file)
+}
+
+/// 64 constraints are accepted, and 65 are too many.
+#[test]
+fn the_greatest_number_of_constraints(rt: HostRuntime) -> Result<(), Fail> {
+    let alloc = rt.alloc();
+    let left = typology_of(alloc, many_constraints(alloc, 64)?.as_str())?;
+    assert_eq!(rt; left.status, Status::Done);
+    let left = typology_of(alloc, many_constraints(alloc, 65)?.as_str())?;
+    assert_eq!(rt; left.status, Status::Refused);
+    assert!(rt; left.err.written() == b"a.txt:1: F4 TooManyConstraints\n".as_slice());
+    Ok(())
+}
+
+/// A file longer than the limit is refused before anything else.
+#[test]
+fn the_greatest_length(rt: HostRuntime) -> Result<(), Fail> {
+    let alloc = rt.alloc();
+    let Ok(file) = vec![in alloc; b' '; 16_777_217] else {
+        return Ok(());
+    };
+    let left = run_on(
+        alloc,
+        &["typology", "a.txt"],
+        &Outside::sound("a.txt", file.as_slice()),
+    )?;
+    assert_eq!(rt; left.status, Status::Refused);
+    assert!(rt; left.err.written() == b"a.txt:1: F13 TooLong\n".as_slice());
+    Ok(())
+}
