@@ -9,9 +9,11 @@ ghost use Rattle.tab_cells.specs.Lines.{lines_of};
 ghost use Rattle.tab_cells.specs.Cells.{cells_of};
 
 mod pieces;
+mod shared;
 mod texts;
 
 pub use pieces::{Cells, Lines};
+pub use shared::{pieces_are_shared, pieces_go};
 pub use texts::{CellText, is_empty_cell, unquote};
 
 /// The lines of a file, in order, without the LF, CR LF or CR that ends each. What follows the last end is a line if it
