@@ -1,7 +1,8 @@
 //! The lines and cells of a tab-separated file, and the text of a cell.
 //!
-//! The files are those of OTSoft, the program whose manual is by Bruce Hayes, Bruce Tesar and Kie Zuraw (2013). That a
-//! line may end at LF, at CR LF or at CR, and how spaces and quotes are taken off a cell, is this project's own.
+//! The files are the input files of OTSoft, tab-separated, as its manual describes them (Bruce Hayes, Bruce Tesar and Kie
+//! Zuraw, 2013). That a line may end at LF, at CR LF or at CR, and how spaces and quotes are taken off a cell, is this
+//! project's own. Spaces are the byte 32 alone, and the bytes need not be UTF-8.
 #![tactic(auto)]
 
 ghost use Rattle.std.specs.Prelude.{◌≡◌, ◌+◌, ◌≤◌, length};
