@@ -1,5 +1,5 @@
 -- Pairs of quotes in a text.
-use Rattle.std.proofs.Common.{◌≡◌, ℕ, zero, suc, ◌+◌, ◌<◌, ◌≤◌, false, true, ◌==◌, ◌&&◌, ◌⊎◌, List, [], ◌∷◌, ◌++◌, append_assoc, length, slice_index, arith, inl, inr, ap, refl, sym, None, Some}
+use Rattle.std.proofs.Common.{◌≡◌, ◌≢◌, ℕ, zero, suc, ◌+◌, ◌<◌, ◌≤◌, false, true, ◌==◌, ◌&&◌, ◌⊎◌, List, [], ◌∷◌, ◌++◌, append_assoc, length, slice_index, arith, inl, inr, ap, refl, sym, None, Some}
 use Rattle.std.specs.Prelude.{Option, is_some}
 use Rattle.std.specs.List.{list_all}
 use Rattle.std.proofs.lemmas.Bool.Decides.{eqb_tells}
@@ -56,7 +56,7 @@ pub has_pair-found : (text : List ℕ) (place : Option ℕ) → FindsNeedle text
 has_pair-found text None none = sym (has_pair-nowhere text (λ place found. none place (omega arith) (omega (arith, found.fits)) found))
 has_pair-found text (Some place) found = sym (has_pair-occurs text place found.1)
 
--- the first byte stays, and goes on behind it or behind the pair
+-- the first byte stays, and what follows it, or the pair, is made single in turn
 pub single_quotes_step : (made text : List ℕ) → 0 < length text → (made ++ slice_index text 0 ∷ []) ++ single_quotes (after_quote text) ≡ made ++ single_quotes text
 single_quotes_step made [] some = absurd (omega arith)
 single_quotes_step made (c ∷ []) some = rw append_assoc refl
@@ -79,14 +79,17 @@ length-single_quotes-le (c ∷ d ∷ rest) = elim (pair_tells c d) [
   | inr other ↦ rw other.0 (omega (arith, length-single_quotes-le (d ∷ rest)))
 ]
 
--- A text with a pair gets shorter. So a text becomes another exactly where it has a pair.
-pub length-single_quotes-lt : (text : List ℕ) → has_pair text ≡ true → length (single_quotes text) < length text
+length-single_quotes-lt : (text : List ℕ) → has_pair text ≡ true → length (single_quotes text) < length text
 length-single_quotes-lt [] pair = absurd (cc pair)
 length-single_quotes-lt (c ∷ []) pair = absurd (cc pair)
 length-single_quotes-lt (c ∷ d ∷ rest) pair = elim (pair_tells c d) [
   | inl first ↦ rw first.0 (omega (arith, length-single_quotes-le rest))
   | inr other ↦ rw other.0 (omega (arith, length-single_quotes-lt (d ∷ rest) (rw other.0 at pair)))
 ]
+
+-- a text with a pair becomes another text
+pub single_quotes-other : (text : List ℕ) → has_pair text ≡ true → single_quotes text ≢ text
+single_quotes-other text pair = λ same. omega (arith, length-single_quotes-lt text pair, ap length same)
 
 -- spaces alone come from spaces alone
 pub all_spaces-single_quotes : (text : List ℕ) → list_all is_space (single_quotes text) ≡ list_all is_space text

@@ -1,7 +1,6 @@
 //! Bytes as lines, and a line as cells.
 
-ghost use Rattle.std.specs.Prelude.{◌≡◌, ◌∷◌, ◌+◌, ◌<◌, ◌≤◌, ◌==◌, length, MatchOption};
-ghost use Rattle.std.specs.List.{before_first, after_first, position_or_len};
+ghost use Rattle.std.specs.Prelude.{◌≡◌, ◌∷◌, ◌<◌, length};
 ghost use Rattle.tab_cells.specs.Lines.{lines_of, after_end};
 ghost use Rattle.tab_cells.specs.Cells.{cells_of, cells_left};
 

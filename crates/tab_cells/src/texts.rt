@@ -1,6 +1,6 @@
 //! The text of a cell.
 
-ghost use Rattle.std.specs.Prelude.{◌≡◌, ◌<◌, ◌∷◌, ◌++◌, ◌==◌, true, false, length, IsTrue, IfOk, OnErr, MatchOption};
+ghost use Rattle.std.specs.Prelude.{◌≡◌, ◌<◌, ◌==◌, true, false, length, IsTrue, IfOk, OnErr, MatchOption};
 ghost use Rattle.tab_cells.specs.Cells.{trimmed, trimmed_start, trimmed_end, is_quoted, inside, single_quotes, after_quote, has_pair, loses_quote, text_of};
 ghost use Rattle.tab_cells.specs.CellText.{text_in, is_made};
 
@@ -17,6 +17,7 @@ pub enum CellText<'a> {
 }
 
 impl<'a> CellText<'a> {
+    /// The bytes of the text, which need not be UTF-8.
     pub fn bytes(&self) -> &[u8]
         ensures { result.now ≡ text_in self.now }
     {
