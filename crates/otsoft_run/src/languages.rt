@@ -36,7 +36,11 @@ pub(crate) fn languages_of(alloc: Global, problem: &Problem) -> Result<List<Lang
 }
 
 /// The least hierarchy that makes each class of a choice optimal, and None where no ranking does.
-fn strata_of(alloc: Global, problem: &Problem, choice: &[ClassId]) -> Result<Option<Strata>, NoMemory>
+fn strata_of(
+    alloc: Global,
+    problem: &Problem,
+    choice: &[ClassId],
+) -> Result<Option<Strata>, NoMemory>
     requires { IsPrefix problem.now (map (λ c. c.0) choice.now) }
     ensures { let classes = map (λ c. c.0) choice.now in IfOk result (λ strata. MatchOption strata (refuted problem.now classes ≡ true)
         (λ levels. (refuted problem.now classes ≡ false) × IsLeastHierarchy problem.now.constraints (conditions_of problem.now classes) levels)) }
@@ -44,3 +48,6 @@ fn strata_of(alloc: Global, problem: &Problem, choice: &[ClassId]) -> Result<Opt
     let set = conditions_of(alloc, problem, choice)?;
     Ok(least_hierarchy(problem.constraints(), set.as_slice()))
 }
+
+#[cfg(test)]
+mod tests;
