@@ -1,5 +1,3 @@
-use Rattle.std.proofs.Common.{length, ◌∙◌, sym}
-use Rattle.std.proofs.lemmas.List.Elements.{All-same}
 use Rattle.otsoft_run.proofs.Widths.{widths-found}
 use Rattle.otsoft_run.proofs.languages.tests.languages_in.Goals as goal
 
