@@ -7,7 +7,7 @@ use Rattle.ot_theory.proofs.Candidates.{length-classes_of, some-classes_of}
 use Rattle.ot_base.specs.declared.tableau.Tableau.{Tableau}
 use Rattle.ot_base.specs.declared.tableau.InputRows.{InputRows}
 use Rattle.ot_base.specs.Tableaus.{problem_of, input_of_rows}
-use Rattle.tableau_file.specs.Acceptable.{IsAcceptable, AreRows, IsRow}
+use Rattle.tableau_file.specs.Acceptable.{IsAcceptable, AreRows}
 use Rattle.otsoft_run.specs.WellFormed.{IsWellFormed, IsWellFormedInput}
 
 IsWellFormed-rows : (n : ℕ) (rows : InputRows) → AreRows n rows → IsWellFormedInput n (input_of_rows rows)

@@ -29,7 +29,7 @@ pub(crate) fn choice_count_within(problem: &Problem, limit: usize) -> Option<usi
     Some(count)
 }
 
-/// The k-th choice, from 0 on, of the number of all choices.
+/// The choice at place k of all choices in lexicographic order, from 0 on. The count is that of all choices.
 pub(crate) fn choice_at(
     alloc: Global,
     problem: &Problem,

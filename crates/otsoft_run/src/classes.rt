@@ -40,7 +40,7 @@ impl InputClasses {
     }
 }
 
-/// The class of the winning candidate.
+/// The class of the winning candidate, and None where no count is positive.
 fn winner_of(candidates: &[CandidateRow], classes: &[List<u32>]) -> Option<u16>
     requires few { length classes.now ≤ CANDIDATE_LIMIT }
     requires classes { classes.now ≡ classes_of (map (λ row. row.violations) candidates.now) }
@@ -96,7 +96,7 @@ fn copied(alloc: Global, profile: &[u32]) -> Result<List<u32>, NoMemory>
     Ok(copy)
 }
 
-/// The first candidate with the greatest positive count.
+/// The first candidate with the greatest positive count, if there is one.
 fn winning_candidate(candidates: &[CandidateRow]) -> Option<usize>
     ensures winner { let counts = map (λ row. row.count) candidates.now in result ≡ find (is_winning counts) (numbers_below (length counts)) }
     ensures within { IfSome result (λ k. k < length candidates.now) }

@@ -1,6 +1,6 @@
-use Rattle.std.proofs.Common.{◌≡◌, ◌+◌, ◌/◌, ◌%◌, ◌<◌, [], ◌∷◌, ◌++◌, map, drop, arith, sym, ◌∙◌, ap, append_assoc}
+use Rattle.std.proofs.Common.{◌≡◌, ◌+◌, ◌/◌, ◌<◌, drop, arith, append_assoc}
 use Rattle.std.proofs.lemmas.List.{map_push}
-use Rattle.ot_theory.specs.Languages.{choice_count, choice_at}
+use Rattle.ot_theory.specs.Languages.{choice_count}
 use Rattle.ot_theory.proofs.Digits.{count_left, choice_step, some_left}
 use Rattle.otsoft_run.proofs.Inputs.{EachSome-from_well_formed, IsPrefix-choice_at}
 use Rattle.otsoft_run.proofs.choices.choice_at.Goals as goal

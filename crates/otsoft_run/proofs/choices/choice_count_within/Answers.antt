@@ -1,5 +1,4 @@
-use Rattle.std.proofs.Common.{◌≡◌, ◌*◌, ◌<◌, ◌≤◌, drop, arith}
-use Rattle.std.specs.Prelude.{IfNone}
+use Rattle.std.proofs.Common.{◌*◌, ◌≤◌, arith}
 use Rattle.ot_theory.specs.Languages.{choice_count}
 use Rattle.ot_theory.proofs.Digits.{count_more, count_bound}
 use Rattle.otsoft_run.proofs.Inputs.{EachSome-from_well_formed}

@@ -1,4 +1,4 @@
-use Rattle.std.proofs.Common.{length, map, take, arith}
+use Rattle.std.proofs.Common.{map, take, arith}
 use Rattle.std.proofs.lemmas.List.{map_more, length-map, length-take}
 use Rattle.ot_theory.proofs.Candidates.{classes_of-push, length-classes_of}
 use Rattle.otsoft_run.proofs.classes.distinct_profiles.Goals as goal

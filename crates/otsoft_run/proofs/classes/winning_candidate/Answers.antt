@@ -1,4 +1,4 @@
-use Rattle.std.proofs.Common.{◌≡◌, map, length, get_or, sym, ◌∙◌, ap, subst, arith}
+use Rattle.std.proofs.Common.{◌≡◌, map, get_or, sym, ◌∙◌, ap, subst, arith}
 use Rattle.std.proofs.lemmas.List.{get_or-map, length-map}
 use Rattle.ot_theory.proofs.Candidates.{Wins, Wins-keep, Wins-take, Wins-find}
 use Rattle.otsoft_run.proofs.classes.winning_candidate.Goals as goal

@@ -1,4 +1,4 @@
-use Rattle.std.proofs.Common.{arith, ap, length}
+use Rattle.std.proofs.Common.{arith}
 use Rattle.std.proofs.lemmas.List.{take_all}
 use Rattle.otsoft_run.proofs.Acceptable.{IsWellFormed-problem_of}
 use Rattle.otsoft_run.proofs.problem.Problem.of.Goals as goal
