@@ -1,8 +1,8 @@
 //! Numbers in digits.
 
-ghost use Rattle.std.specs.Prelude.{◌≡◌, ◌<◌, ◌^◌, ◌*◌, ◌-◌, length, true, false, IfSome, IfNone};
+ghost use Rattle.std.specs.Prelude.{◌≡◌, ◌<◌, ◌^◌, ◌*◌, ◌-◌, [], ◌∷◌, length, true, false, IfSome, IfNone, MatchOption};
 ghost use Rattle.std.specs.List.{list_all};
-ghost use Rattle.tableau_file.specs.Numbers.{is_digit, is_short_number, value_of, IsNumber, is_violation, is_count, billionths};
+ghost use Rattle.tableau_file.specs.Numbers.{is_digit, is_short_number, value_of, IsNumber, is_violation, pieces, is_count, billionths};
 
 use crate::limits::{BILLION, VIOLATION_LIMIT};
 
@@ -59,18 +59,28 @@ pub(crate) fn count_of(text: &[u8]) -> Option<u64>
     if text.is_empty() {
         return Some(0);
     }
-    let (whole, part) = match text.iter().position(|c| *c == b'.') {
-        Some(at) => (&text[..at], Some(&text[at + 1..])),
-        None => (text, None),
-    };
+    let (whole, part) = cut_at_point(text);
     if !is_short_number(whole) {
         return None;
     }
     let count = u64::from(value_of(whole)) * BILLION;
-    match part {
-        None => Some(count),
-        Some(part) if is_short_number(part) => Some(count + billionths_of(part)),
-        Some(_) => None,
+    let Some(part) = part else {
+        return Some(count);
+    };
+    if is_short_number(part) {
+        Some(count + billionths_of(part))
+    } else {
+        None
+    }
+}
+
+/// What stands before the first point, and what stands after it if there is one.
+fn cut_at_point(text: &[u8]) -> (&[u8], Option<&[u8]>)
+    ensures { MatchOption result.1 (pieces text.now ≡ result.0.now ∷ []) (λ part. pieces text.now ≡ result.0.now ∷ pieces part.now) }
+{
+    match text.iter().position(|c| *c == b'.') {
+        Some(at) => (&text[..at], Some(&text[at + 1..])),
+        None => (text, None),
     }
 }
 
@@ -80,9 +90,5 @@ fn billionths_of(part: &[u8]) -> u64
     ensures value { result ≡ value_of part.now * 10 ^ (9 - length part.now) }
     ensures bound { result < 10 ^ 18 }
 {
-    let mut value = u64::from(value_of(part));
-    for _ in part.len()..9 {
-        value *= 10;
-    }
-    value
+    u64::from(value_of(part)) * 10_u64.pow((9 - part.len()) as u32)
 }

@@ -1,20 +1,49 @@
 //! One line as a candidate, behind the inputs of the lines before it.
 
-ghost use Rattle.std.specs.Prelude.{◌≡◌, [], List, OnOk, Err};
-ghost use Rattle.tableau_file.specs.Rows.{texts_of, with_row, is_blank};
-ghost use Rattle.tableau_file.specs.Faults.{row_faults, IsFirst};
+ghost use Rattle.std.specs.Prelude.{◌≡◌, ◌+◌, ◌<◌, ◌≤◌, ℕ, [], ◌∷◌, ◌++◌, List, true, false, not, map, drop, length, OnOk, IfOk, Err, MatchOption, MatchResult};
+ghost use Rattle.std.specs.List.{list_all, list_any, range_with_len};
+ghost use Rattle.tab_cells.specs.CellText.{text_in};
+ghost use Rattle.tab_cells.specs.Cells.{cells_of, text_of};
+ghost use Rattle.tableau_file.specs.Numbers.{value_of, is_violation, billionths};
+ghost use Rattle.tableau_file.specs.Rows.{texts_of, cell, is_empty, constraint_cells, candidate_of, continues, with_row, is_blank};
+ghost use Rattle.tableau_file.specs.Faults.{begins_input, candidates_before, all_candidates, input_faults, candidate_faults, number_faults, row_faults, IsFirst};
 
 use crate::Why;
-use erc_vectors::List;
-use ot_base::InputRows;
+use crate::limits::{CANDIDATE_LIMIT, INPUT_LIMIT, ROW_LIMIT};
+use crate::numbers::{count_of, violation_of};
+use erc_vectors::{List, NoMemory};
+use ot_base::{CandidateRow, InputRows, Label};
 use std::alloc::Global;
 use std::marker::Model;
+use tab_cells::{CellText, Cells};
 
 /// Why a line gives nothing.
 #[derive(Clone, Copy, Debug, PartialEq, Eq)]
 pub(crate) enum LineError {
     Fault(Why),
     NoMemory,
+}
+
+impl From<Why> for LineError {
+    ghost use Rattle.std.specs.Prelude.{◌≡◌};
+    ghost use Rattle.tableau_file.specs.declared.row.LineError.TheVariants.{Fault};
+
+    ghost from_gives = { λ why error. error ≡ Fault why };
+
+    fn from(why: Why) -> LineError {
+        LineError::Fault(why)
+    }
+}
+
+impl From<NoMemory> for LineError {
+    ghost use Rattle.std.specs.Prelude.{◌≡◌};
+    ghost use Rattle.tableau_file.specs.declared.row.LineError.TheVariants as variants;
+
+    ghost from_gives = { λ _ error. error ≡ variants.NoMemory };
+
+    fn from(_error: NoMemory) -> LineError {
+        LineError::NoMemory
+    }
 }
 
 /// The inputs so far, and how many candidates they have in all.
@@ -55,13 +84,186 @@ impl Inputs {
         } = self;
         list
     }
+
+    /// Takes the last input out.
+    fn pop(&mut self) -> Option<InputRows>
+        ensures { MatchOption result ((self.old ≡ []) × (self.new ≡ [])) (λ last. self.old ≡ self.new ++ last ∷ []) }
+    {
+        let last = self.list.pop()?;
+        self.candidates -= last.candidates.len();
+        Some(last)
+    }
+
+    /// Puts an input behind the others.
+    fn push(&mut self, input: InputRows) -> Result<(), NoMemory>
+        requires { all_candidates self.old + length input.candidates ≤ ROW_LIMIT }
+        ensures { OnOk result (self.new ≡ self.old ++ input ∷ []) }
+    {
+        let candidates = input.candidates.len();
+        self.list.push(input)?;
+        self.candidates += candidates;
+        Ok(())
+    }
+
+    /// Whether a row with this text of its input begins an input.
+    fn begins(&self, input: &[u8]) -> bool
+        ensures { result ≡ begins_input self.now (input.now ∷ []) }
+    {
+        match self.list.as_slice().last() {
+            Some(last) => !continues(last, input),
+            None => !input.is_empty(),
+        }
+    }
+
+    /// The number of candidates that the input of a row with this text has so far.
+    fn candidates_before(&self, input: &[u8]) -> usize
+        ensures { result ≡ candidates_before self.now (input.now ∷ []) }
+    {
+        match self.list.as_slice().last() {
+            Some(last) if continues(last, input) => last.candidates.len(),
+            _ => 0,
+        }
+    }
+
+    /// Tells the first fault of the text of an input.
+    fn check_input(&self, input: &[u8]) -> Result<(), Why>
+        ensures { MatchResult result (λ _. input_faults self.now (input.now ∷ []) ≡ []) (λ why. IsFirst why (input_faults self.now (input.now ∷ []))) }
+    {
+        if input.is_empty() && self.list.len() == 0 {
+            return Err(Why::NoInput);
+        }
+        if self.begins(input) && INPUT_LIMIT <= self.list.len() {
+            return Err(Why::TooManyInputs);
+        }
+        Ok(())
+    }
+
+    /// Tells the first fault of the text of a candidate, in a row with this text of its input.
+    fn check_candidate(&self, input: &[u8], text: &[u8]) -> Result<(), Why>
+        ensures faults { MatchResult result (λ _. candidate_faults self.now (input.now ∷ text.now ∷ []) ≡ []) (λ why. IsFirst why (candidate_faults self.now (input.now ∷ text.now ∷ []))) }
+        ensures few { OnOk result (all_candidates self.now < ROW_LIMIT) }
+    {
+        if text.is_empty() {
+            return Err(Why::EmptyCandidate);
+        }
+        if CANDIDATE_LIMIT <= self.candidates_before(input) || ROW_LIMIT <= self.candidates {
+            return Err(Why::TooManyCandidates);
+        }
+        Ok(())
+    }
+
+    /// Adds a candidate to the current input, or to a new one with this text.
+    fn add(&mut self, alloc: Global, input: &[u8], row: CandidateRow) -> Result<(), NoMemory>
+        requires { all_candidates self.old < ROW_LIMIT }
+        ensures { OnOk result ((n : ℕ) (line : ℕ × List (List ℕ)) → cell line.1 0 ≡ input.now → candidate_of n line ≡ row → self.new ≡ with_row n self.old line) }
+    {
+        let Some(mut last) = self.pop() else {
+            return self.push(input_of(alloc, input, row)?);
+        };
+        if continues(&last, input) {
+            last.candidates.push(row)?;
+            return self.push(last);
+        }
+        self.push(last)?;
+        self.push(input_of(alloc, input, row)?)
+    }
+}
+
+/// Whether a row with this text of its input continues the input before it.
+fn continues(last: &InputRows, input: &[u8]) -> bool
+    ensures { result ≡ continues last.now (input.now ∷ []) }
+{
+    input.is_empty() || input == last.text.bytes()
+}
+
+/// A new input with its first candidate.
+fn input_of(alloc: Global, text: &[u8], row: CandidateRow) -> Result<InputRows, NoMemory>
+    ensures { IfOk result (λ input. input ≡ record { text = text.now; candidates = row ∷ [] }) }
+{
+    let text = Label::of(alloc, text)?;
+    let mut candidates = List::new(alloc);
+    candidates.push(row)?;
+    Ok(InputRows { text, candidates })
 }
 
 /// Whether all cells of a line are empty.
 pub(crate) fn is_blank(line: &[u8]) -> bool
     ensures { result ≡ is_blank (texts_of line.now) }
 {
-    tab_cells::cells(line).all(|cell| tab_cells::is_empty_cell(cell))
+    !has_text(tab_cells::cells(line))
+}
+
+/// Whether a cell that is left is not empty.
+fn has_text(mut cells: Cells<'_>) -> bool
+    ensures { result ≡ list_any (λ cell. not (is_empty (text_of cell))) cells.entry }
+{
+    cells.any(|cell| !tab_cells::is_empty_cell(cell))
+}
+
+/// The cells of a line from this column on, counted from 0.
+fn cells_from(line: &[u8], column: usize) -> Cells<'_>
+    ensures { result ≡ drop column (cells_of line.now) }
+{
+    let mut cells = tab_cells::cells(line);
+    for _ in 0..column {
+        cells.next();
+    }
+    cells
+}
+
+/// The text of the next cell, and an empty one past the end.
+fn next_text<'a>(alloc: Global, cells: &mut Cells<'a>) -> Result<CellText<'a>, NoMemory>
+    ensures text { IfOk result (λ text. text_in text ≡ cell (map text_of cells.old) 0) }
+    ensures rest { cells.new ≡ drop 1 cells.old }
+{
+    match cells.next() {
+        Some(cell) => tab_cells::unquote(alloc, cell),
+        None => Ok(CellText::Borrowed(&[])),
+    }
+}
+
+/// The text in a column of a line, counted from 0.
+fn text_at(alloc: Global, line: &[u8], column: usize) -> Result<CellText<'_>, NoMemory>
+    ensures { IfOk result (λ text. text_in text ≡ cell (texts_of line.now) column) }
+{
+    next_text(alloc, &mut cells_from(line, column))
+}
+
+/// The violations in the next n cells, or the fault of one that is none.
+fn violations_of(alloc: Global, n: usize, cells: &mut Cells<'_>) -> Result<List<u32>, LineError>
+    ensures violations { IfOk result (λ violations. violations ≡ map value_of (map (cell (map text_of cells.old)) (range_with_len 0 n))) }
+    ensures sound { OnOk result (list_all is_violation (map (cell (map text_of cells.old)) (range_with_len 0 n)) ≡ true) }
+    ensures rest { OnOk result (cells.new ≡ drop n cells.old) }
+    ensures fault { (why : Why) → result ≡ Err (LineError.Fault why) → (why ≡ Why.BadViolation) × (list_all is_violation (map (cell (map text_of cells.old)) (range_with_len 0 n)) ≡ false) }
+{
+    let mut violations = List::new(alloc);
+    for _ in 0..n {
+        let text = next_text(alloc, cells)?;
+        let Some(violation) = violation_of(text.bytes()) else {
+            return Err(LineError::Fault(Why::BadViolation));
+        };
+        violations.push(violation)?;
+    }
+    Ok(violations)
+}
+
+/// The count in billionths and the n violations of a line, or the first fault from the column of the count on.
+fn numbers_of(alloc: Global, n: usize, line: &[u8]) -> Result<(u64, List<u32>), LineError>
+    ensures sound { OnOk result (number_faults n (texts_of line.now) ≡ []) }
+    ensures count { IfOk result (λ numbers. numbers.0 ≡ billionths (cell (texts_of line.now) 2)) }
+    ensures violations { IfOk result (λ numbers. numbers.1 ≡ map value_of (constraint_cells n (texts_of line.now))) }
+    ensures fault { (why : Why) → result ≡ Err (LineError.Fault why) → IsFirst why (number_faults n (texts_of line.now)) }
+{
+    let text = text_at(alloc, line, 2)?;
+    let Some(count) = count_of(text.bytes()) else {
+        return Err(LineError::Fault(Why::BadCount));
+    };
+    let mut cells = cells_from(line, 3);
+    let violations = violations_of(alloc, n, &mut cells)?;
+    if has_text(cells) {
+        return Err(LineError::Fault(Why::ExtraCell));
+    }
+    Ok((count, violations))
 }
 
 /// Adds the candidate of a line of n constraints, which has this number in its file, or tells its first fault.
@@ -76,5 +278,17 @@ pub(crate) fn add_row(
     ensures added { OnOk result (inputs.new ≡ with_row n inputs.old (number, texts_of line.now)) }
     ensures fault { (why : Why) → result ≡ Err (LineError.Fault why) → IsFirst why (row_faults n inputs.old (texts_of line.now)) }
 {
-    Err(LineError::NoMemory)
+    let input = text_at(alloc, line, 0)?;
+    inputs.check_input(input.bytes())?;
+    let text = text_at(alloc, line, 1)?;
+    inputs.check_candidate(input.bytes(), text.bytes())?;
+    let (count, violations) = numbers_of(alloc, n, line)?;
+    let row = CandidateRow {
+        text: Label::of(alloc, text.bytes())?,
+        count,
+        violations,
+        line: number,
+    };
+    inputs.add(alloc, input.bytes(), row)?;
+    Ok(())
 }
