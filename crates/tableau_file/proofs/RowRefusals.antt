@@ -60,7 +60,7 @@ refusals_after-rest n front (row ∷ rest) =
       ∙ next
       ∙ ap (λ inputs. refusals_after n inputs rest) (inputs_of-more n front row))
 
-rows_refusals-after : (n : ℕ) (rows : List (ℕ × List (List ℕ))) → rows_refusals n rows ≡ refusals_at 3 (fault (length rows == 0) NoRows) ++ refusals_after n [] rows
+pub rows_refusals-after : (n : ℕ) (rows : List (ℕ × List (List ℕ))) → rows_refusals n rows ≡ refusals_at 3 (fault (length rows == 0) NoRows) ++ refusals_after n [] rows
 unfolding rows_refusals inputs_of
 rows_refusals-after n rows = ap (λ refusals. refusals_at 3 (fault (length rows == 0) NoRows) ++ refusals) (refusals_after-rest n [] rows)
 
