@@ -5,8 +5,8 @@ ghost use Rattle.tableau_file.specs.Rows.{texts_of, rows_from, inputs_of};
 ghost use Rattle.tableau_file.specs.Faults.{rows_refusals, IsFirst};
 
 use crate::limits::FILE_LIMIT;
-use crate::row::{Inputs, LineError, add_row, is_blank};
-use crate::{FileRefusal, ReadError, Why};
+use crate::row::{Inputs, add_row, is_blank};
+use crate::{FileRefusal, ReadError, Why, error_at};
 use erc_vectors::List;
 use ot_base::InputRows;
 use std::alloc::Global;
@@ -27,13 +27,8 @@ pub(crate) fn read_rows(
     let mut number = 3;
     for line in lines {
         if !is_blank(line) {
-            match add_row(alloc, n, &mut inputs, number, line) {
-                Ok(()) => {}
-                Err(LineError::Fault(why)) => return Err(ReadError::Refused(FileRefusal {
-                    line: number,
-                    why,
-                })),
-                Err(LineError::NoMemory) => return Err(ReadError::NoMemory),
+            if let Err(error) = add_row(alloc, n, &mut inputs, number, line) {
+                return Err(error_at(number, error));
             }
         }
         number += 1;
