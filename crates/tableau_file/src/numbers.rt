@@ -37,10 +37,7 @@ pub(crate) fn violation_of(text: &[u8]) -> Option<u32>
     ensures some { IfSome result (λ violation. (is_violation text.now ≡ true) × (violation ≡ value_of text.now)) }
     ensures none { IfNone result (is_violation text.now ≡ false) }
 {
-    if text.is_empty() {
-        return Some(0);
-    }
-    if !is_short_number(text) {
+    if !text.is_empty() && !is_short_number(text) {
         return None;
     }
     let value = value_of(text);

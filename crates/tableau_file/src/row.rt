@@ -1,12 +1,13 @@
 //! One line as a candidate, behind the inputs of the lines before it.
 
 ghost use Rattle.std.specs.Prelude.{◌≡◌, ◌+◌, ◌<◌, ◌≤◌, ℕ, [], ◌∷◌, ◌++◌, List, true, false, not, map, drop, length, OnOk, IfOk, Err, MatchOption, MatchResult};
+ghost use Rattle.std.specs.Option.{option_copied};
 ghost use Rattle.std.specs.List.{list_all, list_any, range_with_len};
 ghost use Rattle.tab_cells.specs.CellText.{text_in};
 ghost use Rattle.tab_cells.specs.Cells.{cells_of, text_of};
 ghost use Rattle.tableau_file.specs.Numbers.{value_of, is_violation, billionths};
 ghost use Rattle.tableau_file.specs.Rows.{texts_of, cell, is_empty, constraint_cells, candidate_of, continues, with_row, is_blank};
-ghost use Rattle.tableau_file.specs.Faults.{begins_input, candidates_before, all_candidates, input_faults, candidate_faults, number_faults, row_faults, IsFirst};
+ghost use Rattle.tableau_file.specs.Faults.{current, begins_input, candidates_before, all_candidates, input_faults, candidate_faults, number_faults, row_faults, IsFirst};
 
 use crate::Why;
 use crate::limits::{CANDIDATE_LIMIT, INPUT_LIMIT, ROW_LIMIT};
@@ -105,11 +106,18 @@ impl Inputs {
         Ok(())
     }
 
+    /// The last input that has begun.
+    fn current(&self) -> Option<&InputRows>
+        ensures { option_copied result ≡ current self.now }
+    {
+        self.list.as_slice().last()
+    }
+
     /// Whether a row with this text of its input begins an input.
     fn begins(&self, input: &[u8]) -> bool
         ensures { result ≡ begins_input self.now (input.now ∷ []) }
     {
-        match self.list.as_slice().last() {
+        match self.current() {
             Some(last) => !continues(last, input),
             None => !input.is_empty(),
         }
@@ -119,7 +127,7 @@ impl Inputs {
     fn candidates_before(&self, input: &[u8]) -> usize
         ensures { result ≡ candidates_before self.now (input.now ∷ []) }
     {
-        match self.list.as_slice().last() {
+        match self.current() {
             Some(last) if continues(last, input) => last.candidates.len(),
             _ => 0,
         }
