@@ -133,7 +133,7 @@ rows-with_row n (input ∷ []) row is few rows =
     ]
 rows-with_row n (input ∷ next ∷ inputs) row is few rows =
     All-cons (AreRows n) input (with_row n (next ∷ inputs) row) (All-head (AreRows n) input (next ∷ inputs) rows)
-      (rows-with_row n (next ∷ inputs) row is (subst (λ count. count < CANDIDATE_LIMIT) (before-next input next inputs row.1) few) (All-tail (AreRows n) input (next ∷ inputs) rows))
+    (rows-with_row n (next ∷ inputs) row is (subst (λ count. count < CANDIDATE_LIMIT) (before-next input next inputs row.1) few) (All-tail (AreRows n) input (next ∷ inputs) rows))
 
 within-with_row : (n : ℕ) (inputs : List InputRows) (row : ℕ × List (List ℕ)) → Follows n inputs row → AreWithin n inputs → AreWithin n (with_row n inputs row)
 within-with_row n inputs row follows within = record {

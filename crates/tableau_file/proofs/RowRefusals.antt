@@ -55,10 +55,10 @@ refusals_after-rest n front (row ∷ rest) =
     let next = refusals_after-rest n (front ++ row ∷ []) rest in
     ap (λ refusals. refusals ++ flat_map (row_refusals n (front ++ row ∷ rest)) (range_with_len (length front + 1) (length rest))) (row_refusals-seam n front row rest)
     ∙ ap (λ refusals. refusals_at row.0 (row_faults n (inputs_of n front) row.1) ++ refusals)
-      (ap (λ k. flat_map (row_refusals n (front ++ row ∷ rest)) (range_with_len k (length rest))) (sym (length_push front row))
-      ∙ ap (λ rows. flat_map (row_refusals n rows) (range_with_len (length (front ++ row ∷ [])) (length rest))) (sym longer)
-      ∙ next
-      ∙ ap (λ inputs. refusals_after n inputs rest) (inputs_of-more n front row))
+    (ap (λ k. flat_map (row_refusals n (front ++ row ∷ rest)) (range_with_len k (length rest))) (sym (length_push front row))
+    ∙ ap (λ rows. flat_map (row_refusals n rows) (range_with_len (length (front ++ row ∷ [])) (length rest))) (sym longer)
+    ∙ next
+    ∙ ap (λ inputs. refusals_after n inputs rest) (inputs_of-more n front row))
 
 pub rows_refusals-after : (n : ℕ) (rows : List (ℕ × List (List ℕ))) → rows_refusals n rows ≡ refusals_at 3 (fault (length rows == 0) NoRows) ++ refusals_after n [] rows
 unfolding rows_refusals inputs_of

@@ -175,9 +175,11 @@ abbreviations-refused lines first names second refusal named is number fault =
     let sized = subst (λ n. IsFirst refusal.why (abbreviation_faults n (texts_of second))) (length-names lines first names named) fault in
     let here = subst (λ line. IsFirst refusal.why (abbreviation_faults (count lines) (texts_of line))) is sized in
     let told = first_at 2 (abbreviation_faults (count lines) (at lines 1)) refusal number here in
-    refused lines refusal (_,
+    refused lines refusal (
+      _,
       ap (λ names. three names (abbreviation_faults (count lines) (at lines 1)) (rows_refusals (count lines) (rows_of lines))) (sound lines first names named)
-      ∙ ap (λ abbreviations. abbreviations ++ rows_refusals (count lines) (rows_of lines)) told.1)
+          ∙ ap (λ abbreviations. abbreviations ++ rows_refusals (count lines) (rows_of lines)) told.1,
+    )
 
 -- the second line, read
 pub record IsAbbreviated (lines : List (List ℕ)) (names : List (List ℕ)) (second : List ℕ) (abbreviations : List (List ℕ)) : Type 0 where
@@ -210,8 +212,8 @@ table-read lines first names second abbreviations inputs named abbreviated none 
     let made_so = made ∙ ap (λ n. inputs_of n (rows_of lines)) n in
     reading-lines lines
     ∙ ap (λ refusals. first_or refusals (tableau_of (constraint_count table) table))
-      (refusals-lines lines ∙ headed lines first names second abbreviations named abbreviated ∙ ap (λ n. rows_refusals n (rows_of lines)) (sym n) ∙ none)
+    (refusals-lines lines ∙ headed lines first names second abbreviations named abbreviated ∙ ap (λ n. rows_refusals n (rows_of lines)) (sym n) ∙ none)
     ∙ ap Ok (tableau-lines lines
-      ∙ ap (λ names. spelt names (abbreviations_of (constraint_cells (count lines) (at lines 0)) (at lines 1)) (inputs_of (count lines) (rows_of lines))) (sym named_so)
-      ∙ ap (λ abbreviations. spelt names abbreviations (inputs_of (count lines) (rows_of lines))) (sym abbreviated_so)
-      ∙ ap (spelt names abbreviations) (sym made_so))
+    ∙ ap (λ names. spelt names (abbreviations_of (constraint_cells (count lines) (at lines 0)) (at lines 1)) (inputs_of (count lines) (rows_of lines))) (sym named_so)
+    ∙ ap (λ abbreviations. spelt names abbreviations (inputs_of (count lines) (rows_of lines))) (sym abbreviated_so)
+    ∙ ap (spelt names abbreviations) (sym made_so))

@@ -22,7 +22,7 @@ returns-in-Err-read_abbreviations-clause-refused c refusal is =
     let fault = c.in-Err-read_abbreviations.ensures.fault refusal.why (ap Err told.1) in
     let second : c.next_line-2.result.now ≡ slice_index_or c.args.lines 1 [] = c.next_line-2.ensures.line ∙ ap (λ lines. slice_index_or lines 0 []) c.next_line.ensures.rest ∙ get_or-drop 1 c.args.lines 0 [] in
     abbreviations-refused c.args.lines c.next_line.result.now c.in-Ok.names c.next_line-2.result.now refusal named second told.0
-      (rw (ap length c.as_slice.ensures) at fault)
+    (rw (ap length c.as_slice.ensures) at fault)
 
 pub returns-in_err-inputs-clause-refused : goal.returns-in_err-inputs-clause-refused
 returns-in_err-inputs-clause-refused c refusal is =
@@ -50,5 +50,5 @@ returns-clause-read c =
       abbreviations_are = told.abbreviations ∙ ap (λ names. abbreviations_of names (texts_of c.next_line-2.result.now)) c.as_slice.ensures;
     } in
     table-read c.args.lines c.next_line.result.now c.in-Ok.names c.next_line-2.result.now c.in-Ok-read_abbreviations.abbrevs c.in_ok-inputs.inputs named abbreviated
-      (rw (c.len.ensures, rest) at c.in_ok-inputs.ensures.sound)
-      (rw (c.len.ensures, rest) at c.in_ok-inputs.ensures.inputs)
+    (rw (c.len.ensures, rest) at c.in_ok-inputs.ensures.sound)
+    (rw (c.len.ensures, rest) at c.in_ok-inputs.ensures.inputs)

@@ -11,4 +11,4 @@ returns-then-n-gt-LIMIT-clause-fault c why is =
     let n = c.saturating_sub-n.ensures ∙ ap (λ used. used - 3) c.columns_used.ensures in
     let same : TooManyConstraints ≡ why = cc in
     subst (λ why. IsFirst why (name_faults (columns_used texts - 3) texts)) same
-      (subst (λ n. IsFirst TooManyConstraints (name_faults n texts)) n (too_many c.saturating_sub-n.result texts c.if-n-gt-LIMIT.true))
+    (subst (λ n. IsFirst TooManyConstraints (name_faults n texts)) n (too_many c.saturating_sub-n.result texts c.if-n-gt-LIMIT.true))
