@@ -1,15 +1,14 @@
 -- What holds of every tableau that is read: where no row has a fault, the inputs stay within the limits.
-use Rattle.std.proofs.Common.{◌≡◌, ℕ, zero, suc, ◌+◌, ◌-◌, ◌<◌, ◌≤◌, ◌==◌, nat_le, Bool, true, false, not, ◌&&◌, ◌||◌, List, [], ◌∷◌, ◌++◌, length, map, drop, fold, sum_by, slice_index_or, Some, Ok, inl, inr, ap, sym, refl, subst, arith, ◌∙◌}
+use Rattle.std.proofs.Common.{◌≡◌, ℕ, suc, ◌+◌, ◌-◌, ◌<◌, ◌≤◌, ◌==◌, nat_le, Bool, true, false, not, ◌&&◌, ◌||◌, List, [], ◌∷◌, ◌++◌, length, drop, fold, slice_index_or, Ok, inl, inr, ap, sym, refl, subst, arith, ◌∙◌}
 use Rattle.std.specs.Option.{option_map_or}
 use Rattle.std.specs.Prelude.{if◌then◌else◌}
-use Rattle.std.specs.List.{All, list_all, range_with_len, slice_get, zip}
+use Rattle.std.specs.List.{All, list_all, slice_get, zip}
 use Rattle.std.proofs.lemmas.Bool.{cases_Bool, cases_lt, or_parts, and_parts, leb-true, leb-false, not-false}
 use Rattle.std.proofs.lemmas.Bool.Decides.{eqb_tells}
 use Rattle.std.proofs.lemmas.List.{length-map, length_push, nil_from_length}
 use Rattle.std.proofs.lemmas.Slice.Zip.{length-zip}
 use Rattle.std.proofs.lemmas.List.Elements.{All-nil, All-cons, All-head, All-tail, All-push, All-map, All-weaker}
 use Rattle.std.proofs.lemmas.List.Sums.{sum_by-cons, AllPass-from_list_all}
-use Rattle.erc_vectors.specs.declared.condition.TheConstants.{LIMIT}
 use Rattle.ot_base.specs.declared.tableau.Tableau.{Tableau}
 use Rattle.ot_base.specs.declared.tableau.InputRows.{InputRows}
 use Rattle.ot_base.specs.declared.tableau.CandidateRow.{CandidateRow}

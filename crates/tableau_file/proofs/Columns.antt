@@ -3,7 +3,7 @@ use denote.Ref.{Bor}
 use Rattle.std.proofs.Common.{◌≡◌, ℕ, zero, suc, ◌+◌, ◌<◌, Bool, false, not, Option, Some, None, MatchOption, List, [], ◌∷◌, ◌++◌, map, drop, ap, sym, ◌∙◌, refl, inl, inr, add-zero, arith}
 use Rattle.std.specs.List.{list_any, list_all, range_with_len}
 use Rattle.std.proofs.lemmas.Bool.{cases_Bool}
-use Rattle.std.proofs.lemmas.List.{get_or-drop, drop-drop}
+use Rattle.std.proofs.lemmas.List.{get_or-drop, drop-drop, drop-map}
 use Rattle.std.proofs.lemmas.List.FromFn.{map-range_with_len_more, length-map-range_with_len, get_or-map-range_with_len}
 use Rattle.std.proofs.lemmas.List.Folds.{list_all_at}
 use Rattle.ot_theory.proofs.Enumeration.{any-map}
@@ -16,13 +16,8 @@ pub rest_next : (next : Option (Bor (List ℕ))) (old new : List (List ℕ)) →
 rest_next None old new h = h.1 ∙ sym (ap (drop 1) h.0)
 rest_next (Some first) old new h = sym (ap (drop 1) h)
 
-drop_texts : (k : ℕ) (cells : List (List ℕ)) → map text_of (drop k cells) ≡ drop k (map text_of cells)
-drop_texts zero cells = refl
-drop_texts (suc k) [] = refl
-drop_texts (suc k) (first ∷ cells) = drop_texts k cells
-
 pub first_left : (k : ℕ) (cells : List (List ℕ)) → cell (map text_of (drop k cells)) 0 ≡ cell (map text_of cells) k
-first_left k cells = ap (λ texts. cell texts 0) (drop_texts k cells) ∙ get_or-drop k (map text_of cells) 0 [] ∙ ap (cell (map text_of cells)) (add-zero k)
+first_left k cells = ap (λ texts. cell texts 0) (sym (drop-map text_of k cells)) ∙ get_or-drop k (map text_of cells) 0 [] ∙ ap (cell (map text_of cells)) (add-zero k)
 
 columns-drop : (k a n : ℕ) (texts : List (List ℕ)) → map (cell (drop k texts)) (range_with_len a n) ≡ map (cell texts) (range_with_len (k + a) n)
 columns-drop k a zero texts = refl
@@ -41,13 +36,17 @@ fails-column test k n texts within e =
 
 -- the cells that are left after the column of the count begin with those of the constraints
 pub constraints_left : (n : ℕ) (cells : List (List ℕ)) → map (cell (map text_of (drop 3 cells))) (range_with_len 0 n) ≡ constraint_cells n (map text_of cells)
-constraints_left n cells = ap (λ texts. map (cell texts) (range_with_len 0 n)) (drop_texts 3 cells) ∙ columns-drop 3 0 n (map text_of cells)
+constraints_left n cells = ap (λ texts. map (cell texts) (range_with_len 0 n)) (sym (drop-map text_of 3 cells)) ∙ columns-drop 3 0 n (map text_of cells)
+
+pub extra_after : (n : ℕ) (cells : List (List ℕ)) → list_any (λ cell. not (is_empty (text_of cell))) (drop (n + 3) cells) ≡ has_extra n (map text_of cells)
+extra_after n cells =
+    sym (any-map (λ text. not (is_empty text)) text_of (drop (n + 3) cells))
+    ∙ ap (list_any (λ text. not (is_empty text))) (sym (drop-map text_of (n + 3) cells))
 
 pub extra_left : (n : ℕ) (cells : List (List ℕ)) → list_any (λ cell. not (is_empty (text_of cell))) (drop n (drop 3 cells)) ≡ has_extra n (map text_of cells)
 extra_left n cells =
     let further : drop n (drop 3 cells) ≡ drop (n + 3) cells = drop-drop n 3 cells ∙ ap (λ k. drop k cells) (omega arith) in
-    sym (any-map (λ text. not (is_empty text)) text_of (drop n (drop 3 cells)))
-    ∙ ap (list_any (λ text. not (is_empty text))) (ap (map text_of) further ∙ drop_texts (n + 3) cells)
+    ap (list_any (λ cell. not (is_empty (text_of cell)))) further ∙ extra_after n cells
 
 pub blank_texts : (cells : List (List ℕ)) → not (list_any (λ cell. not (is_empty (text_of cell))) cells) ≡ is_blank (map text_of cells)
 blank_texts [] = refl

@@ -1,17 +1,16 @@
 -- The columns of the first two lines.
-use Rattle.std.proofs.Common.{◌≡◌, ℕ, ◌+◌, ◌<◌, ◌==◌, nat_lt, true, false, not, List, [], ◌∷◌, ◌++◌, length, map, take, drop, get_or, refl, ap, sym, ◌∙◌, arith}
+use Rattle.std.proofs.Common.{◌≡◌, ℕ, ◌+◌, ◌<◌, ◌==◌, nat_lt, true, false, List, [], ◌∷◌, ◌++◌, length, map, take, drop, get_or, refl, ap, sym, ◌∙◌, arith}
 use Rattle.std.specs.Prelude.{if◌then◌else◌}
-use Rattle.std.specs.List.{range_with_len, list_any, zip}
+use Rattle.std.specs.List.{list_any, zip}
 use Rattle.std.proofs.lemmas.Bool.{ne_eqb, lt-ltb}
 use Rattle.std.proofs.lemmas.List.FromFn.{map-range_with_len_more, length-map-range_with_len, get_or-map-range_with_len}
-use Rattle.std.proofs.lemmas.List.{drop-drop, drop-map, take_more, length-take-le}
+use Rattle.std.proofs.lemmas.List.{drop-drop, take_more, length-take-le}
 use Rattle.std.proofs.lemmas.List.Folds.{list_any_at, list_any-append}
-use Rattle.ot_theory.proofs.Enumeration.{any-map}
 use Rattle.erc_vectors.specs.declared.condition.TheConstants.{LIMIT}
 use Rattle.tab_cells.specs.Cells.{text_of}
 use Rattle.tableau_file.specs.declared.Why.TheVariants.{EmptyName, TooManyConstraints}
 use Rattle.tableau_file.specs.Rows.{cell, is_empty, constraint_cells, or_name}
-use Rattle.tableau_file.specs.Faults.{fault, has_extra, name_faults, IsFirst}
+use Rattle.tableau_file.specs.Faults.{fault, name_faults, IsFirst}
 use Rattle.tableau_file.proofs.Columns.{first_left}
 use Rattle.tableau_file.proofs.Tables.{length-constraint_cells}
 
@@ -45,11 +44,6 @@ sound_more k texts before here =
     ap (list_any is_empty) (constraint_cells_more k texts)
     ∙ list_any-append is_empty (constraint_cells k texts) (cell texts (3 + k) ∷ [])
     ∙ rw (before, here) refl
-
-pub extra_after : (n : ℕ) (cells : List (List ℕ)) → list_any (λ cell. not (is_empty (text_of cell))) (drop (n + 3) cells) ≡ has_extra n (map text_of cells)
-extra_after n cells =
-    sym (any-map (λ text. not (is_empty text)) text_of (drop (n + 3) cells))
-    ∙ ap (list_any (λ text. not (is_empty text))) (sym (drop-map text_of (n + 3) cells))
 
 abbrev pub each_or_name : List (List ℕ) → List (List ℕ) → List (List ℕ)
 each_or_name texts names = map (λ pair. or_name pair.0 pair.1) (zip texts names)

@@ -1,6 +1,6 @@
 -- What is wrong with the lines of a table: for each line its faults, in the order in which they count.
 use Rattle.std.specs.Option.{option_map_or}
-use Rattle.std.specs.Prelude.{◌≡◌, Option, slice_get, ℕ, ◌+◌, ◌-◌, List, [], ◌∷◌, ◌++◌, Bool, true, false, ◌&&◌, ◌||◌, not, map, take, drop, length, slice_index_or, nat_le, nat_lt, ◌==◌, bytes_eq, sum_by, flat_map, fold, max, if◌then◌else◌}
+use Rattle.std.specs.Prelude.{◌≡◌, Option, slice_get, ℕ, ◌+◌, ◌-◌, List, [], ◌∷◌, ◌++◌, Bool, ◌&&◌, ◌||◌, not, map, take, drop, length, slice_index_or, nat_le, nat_lt, ◌==◌, sum_by, flat_map, fold, if◌then◌else◌}
 use Rattle.std.specs.List.{list_all, list_any, enumerate_from, range_with_len}
 use Rattle.erc_vectors.specs.declared.condition.TheConstants.{LIMIT}
 use Rattle.ot_base.specs.declared.tableau.InputRows.{InputRows}

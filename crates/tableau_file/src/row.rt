@@ -3,20 +3,20 @@
 ghost use Rattle.std.specs.Prelude.{◌≡◌, ◌+◌, ◌<◌, ◌≤◌, ℕ, [], ◌∷◌, ◌++◌, List, true, false, not, map, drop, length, OnOk, IfOk, Err, MatchOption, MatchResult};
 ghost use Rattle.std.specs.Option.{option_copied};
 ghost use Rattle.std.specs.List.{list_all, list_any, range_with_len};
-ghost use Rattle.tab_cells.specs.CellText.{text_in};
-ghost use Rattle.tab_cells.specs.Cells.{cells_of, text_of};
+ghost use Rattle.tab_cells.specs.Cells.{text_of};
 ghost use Rattle.tableau_file.specs.Numbers.{value_of, is_violation, billionths};
 ghost use Rattle.tableau_file.specs.Rows.{texts_of, cell, is_empty, constraint_cells, candidate_of, continues, with_row, is_blank};
 ghost use Rattle.tableau_file.specs.Faults.{current, begins_input, candidates_before, all_candidates, input_faults, candidate_faults, number_faults, row_faults, IsFirst};
 
 use crate::Why;
+use crate::cells::{cells_from, has_text, next_text, text_at};
 use crate::limits::{CANDIDATE_LIMIT, INPUT_LIMIT, ROW_LIMIT};
 use crate::numbers::{count_of, violation_of};
 use erc_vectors::{List, NoMemory};
 use ot_base::{CandidateRow, InputRows, Label};
 use std::alloc::Global;
 use std::marker::Model;
-use tab_cells::{CellText, Cells};
+use tab_cells::Cells;
 
 /// Why a line gives nothing.
 #[derive(Clone, Copy, Debug, PartialEq, Eq)]
@@ -199,42 +199,6 @@ pub(crate) fn is_blank(line: &[u8]) -> bool
     ensures { result ≡ is_blank (texts_of line.now) }
 {
     !has_text(tab_cells::cells(line))
-}
-
-/// Whether a cell that is left is not empty.
-fn has_text(mut cells: Cells<'_>) -> bool
-    ensures { result ≡ list_any (λ cell. not (is_empty (text_of cell))) cells.entry }
-{
-    cells.any(|cell| !tab_cells::is_empty_cell(cell))
-}
-
-/// The cells of a line from this column on, counted from 0.
-fn cells_from(line: &[u8], column: usize) -> Cells<'_>
-    ensures { result ≡ drop column (cells_of line.now) }
-{
-    let mut cells = tab_cells::cells(line);
-    for _ in 0..column {
-        cells.next();
-    }
-    cells
-}
-
-/// The text of the next cell, and an empty one past the end.
-fn next_text<'a>(alloc: Global, cells: &mut Cells<'a>) -> Result<CellText<'a>, NoMemory>
-    ensures text { IfOk result (λ text. text_in text ≡ cell (map text_of cells.old) 0) }
-    ensures rest { cells.new ≡ drop 1 cells.old }
-{
-    match cells.next() {
-        Some(cell) => tab_cells::unquote(alloc, cell),
-        None => Ok(CellText::Borrowed(&[])),
-    }
-}
-
-/// The text in a column of a line, counted from 0.
-fn text_at(alloc: Global, line: &[u8], column: usize) -> Result<CellText<'_>, NoMemory>
-    ensures { IfOk result (λ text. text_in text ≡ cell (texts_of line.now) column) }
-{
-    next_text(alloc, &mut cells_from(line, column))
 }
 
 /// The violations in the next n cells, or the fault of one that is none.

@@ -1,8 +1,7 @@
 use Rattle.std.proofs.Common.{◌≡◌, length, drop, slice_index_or, [], Err, ap, sym, ◌∙◌, arith}
 use Rattle.std.proofs.lemmas.List.{get_or-drop, drop-drop}
-use Rattle.tableau_file.specs.Rows.{rows_from, texts_of, abbreviations_of}
-use Rattle.tableau_file.specs.Faults.{rows_refusals, abbreviation_faults, IsFirst}
-use Rattle.tableau_file.proofs.Tables.{IsNamed, IsAbbreviated, names-refused, few-names, abbreviations-refused, rows-refused, table-read, rows_of}
+use Rattle.tableau_file.specs.Rows.{texts_of, abbreviations_of}
+use Rattle.tableau_file.proofs.Tables.{IsNamed, IsAbbreviated, names-refused, few-names, abbreviations-refused, rows-refused, table-read}
 use Rattle.tableau_file.proofs.read_table.Goals as goal
 
 pub returns-in-Err-clause-refused : goal.returns-in-Err-clause-refused

@@ -2,9 +2,10 @@ use Rattle.std.proofs.Common.{◌≡◌, ◌+◌, ◌++◌, ◌∷◌, [], not, 
 use Rattle.std.specs.List.{list_any}
 use Rattle.tab_cells.specs.Cells.{cells_of, text_of}
 use Rattle.tableau_file.specs.Rows.{texts_of, cell, is_empty, constraint_cells, or_name}
-use Rattle.tableau_file.specs.Faults.{fault, has_extra}
+use Rattle.tableau_file.specs.Faults.{fault}
 use Rattle.tableau_file.specs.declared.Why.TheVariants.{ExtraCell}
-use Rattle.tableau_file.proofs.Names.{name_left, cells_next, extra_after, each_or_name, or_name_more}
+use Rattle.tableau_file.proofs.Columns.{extra_after}
+use Rattle.tableau_file.proofs.Names.{name_left, cells_next, each_or_name, or_name_more}
 use Rattle.tableau_file.proofs.header.read_abbreviations.Goals as goal
 
 pub returns-then-has_text-clause-fault : goal.returns-then-has_text-clause-fault

@@ -1,4 +1,4 @@
-use Rattle.std.proofs.Common.{◌≡◌, ◌-◌, ap, subst, ◌∙◌, arith}
+use Rattle.std.proofs.Common.{◌≡◌, ◌-◌, ap, subst, ◌∙◌}
 use Rattle.tableau_file.specs.declared.Why.TheVariants.{TooManyConstraints}
 use Rattle.tableau_file.specs.Rows.{texts_of}
 use Rattle.tableau_file.specs.Faults.{columns_used, name_faults, IsFirst}

@@ -1,4 +1,4 @@
-use Rattle.std.proofs.Common.{◌≡◌, ◌+◌, ◌≤◌, map, length}
+use Rattle.std.proofs.Common.{◌+◌, ◌≤◌, map, length}
 use Rattle.tableau_file.specs.declared.limits.TheConstants.{FILE_LIMIT}
 use Rattle.tableau_file.specs.Rows.{texts_of, rows_from}
 use Rattle.tableau_file.proofs.RowRefusals.{LeavesAll}
