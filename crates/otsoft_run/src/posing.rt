@@ -1,3 +1,5 @@
+//! What a file poses: it is read to its end, and then judged.
+
 ghost use Rattle.std.specs.Prelude.{◌≡◌, ◌≤◌, ◌+◌, ℕ, List, drop, Ok, Err, Some, IfOk, OnOk};
 ghost use Rattle.tableau_file.specs.declared.limits.TheConstants.{FILE_LIMIT};
 ghost use Rattle.ot_theory.specs.Languages.{choice_count};

@@ -1,3 +1,5 @@
+//! The report of a typology: the languages, and their text.
+
 ghost use Rattle.std.specs.Prelude.{◌≡◌, ◌≤◌, IfOk};
 ghost use Rattle.ot_theory.specs.Languages.{choice_count};
 ghost use Rattle.ot_base.specs.Tableaus.{problem_of};

@@ -1,3 +1,5 @@
+//! How a run ended, as a status.
+
 ghost use Rattle.std.specs.Prelude.{◌≡◌};
 ghost use Rattle.otsoft_run.specs.Answers.{code_of};
 

@@ -1,3 +1,5 @@
+//! A text that grows at its end, by bytes, numbers and fields.
+
 ghost use Rattle.std.specs.Prelude.{◌≡◌, [], ◌∷◌, ◌++◌, OnOk, decimal, if◌then◌else◌};
 ghost use Rattle.otsoft_run.specs.Spelling.{line};
 

@@ -1,3 +1,5 @@
+//! The command `typology`: from the name of a file to its written report.
+
 ghost use Rattle.std.specs.Prelude.{◌≡◌, ◌≤◌, ◌⊎◌, ℕ, Result, Ok, Err, IsTrue, IsErr};
 ghost use Rattle.std.specs.Io.KnownBytes.{Keeps, Appends};
 ghost use Rattle.ot_base.specs.Causes.{next_number};

@@ -1,5 +1,5 @@
 -- What the words ask for is the command that ran, so what the files pose for the one they pose for the other.
-use Rattle.std.proofs.Common.{◌≡◌, subst, Ok, Err}
+use Rattle.std.proofs.Common.{subst, Ok, Err}
 use Rattle.otsoft_run.specs.declared.words.Settings.{Settings}
 use Rattle.otsoft_run.specs.Answers.{Judges, ReadsRose}
 use Rattle.otsoft_run.proofs.Asked.{same_settings}

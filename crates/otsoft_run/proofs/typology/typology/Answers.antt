@@ -1,4 +1,4 @@
-use Rattle.std.proofs.Common.{◌≡◌, refl, sym, ◌∙◌}
+use Rattle.std.proofs.Common.{refl, sym, ◌∙◌}
 use Rattle.otsoft_run.specs.Answers.{refusal_of}
 use Rattle.otsoft_run.proofs.typology.typology.Goals as goal
 
