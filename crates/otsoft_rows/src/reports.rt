@@ -10,11 +10,20 @@ pub(crate) struct Row {
     pub(crate) report: &'static str,
 }
 
+const CODA_REPORT: &str =
+    "otsoft report 1\ttypology\nconstraints\t3\nconstraint\t1\tNoCoda\tNoCoda\nconstraint\t2\tMax\tMax\nconstraint\t3\tDep\tDep\ninputs\t1\ninput\t1\tpat\t3\nclass\t1.1\t1 0 0\tpat\nclass\t1.2\t0 1 0\tpa\nclass\t1.3\t0 0 1\tpa.ti\nlanguages\t3\nlanguage\t1\t1\t2 3 | 1\nlanguage\t2\t2\t1 3 | 2\nlanguage\t3\t3\t1 2 | 3\nend\n";
+
+const CHAIN_REPORT: &str =
+    "otsoft report 1\ttypology\nconstraints\t3\nconstraint\t1\tA\tA\nconstraint\t2\tB\tB\nconstraint\t3\tC\tC\ninputs\t2\ninput\t1\tx\t2\nclass\t1.1\t0 1 0\tp\nclass\t1.2\t1 0 0\tq\ninput\t2\ty\t2\nclass\t2.1\t0 0 1\tr\nclass\t2.2\t0 1 0\ts\nlanguages\t4\nlanguage\t1\t1 1\t1 | 2 | 3\nlanguage\t2\t1 2\t1 3 | 2\nlanguage\t3\t2 1\t2 | 1 3\nlanguage\t4\t2 2\t3 | 2 | 1\nend\n";
+
+const SYLLABLES_REPORT: &str =
+    "otsoft report 1\ttypology\nconstraints\t4\nconstraint\t1\tOns\tOnset\nconstraint\t2\tNoC\tNoCoda\nconstraint\t3\tMax\tMax\nconstraint\t4\tDep\tDep\ninputs\t2\ninput\t1\ta\t3\nclass\t1.1\t1 0 0 0\t.a.\nclass\t1.2\t0 0 0 1\t.ta.\nclass\t1.3\t0 0 1 0\t<a>\ninput\t2\ttat\t3\nclass\t2.1\t0 1 0 0\t.tat.\nclass\t2.2\t0 0 0 1\t.ta.ta.\nclass\t2.3\t0 0 1 0\t.ta.\nlanguages\t7\nlanguage\t1\t1 1\t3 4 | 1 2\nlanguage\t2\t1 2\t2 3 | 4 | 1\nlanguage\t3\t1 3\t2 4 | 3 | 1\nlanguage\t4\t2 1\t1 3 | 4 | 2\nlanguage\t5\t2 2\t1 2 3 | 4\nlanguage\t6\t3 1\t1 4 | 3 | 2\nlanguage\t7\t3 3\t1 2 4 | 3\nend\n";
+
 /// A coda is kept, deleted or made an onset.
 pub(crate) const CODA: Row = Row {
     name: "coda repair",
     file: "\t\t\tNoCoda\tMax\tDep\n\t\t\tNoCoda\tMax\tDep\npat\tpat\t1\t1\t0\t0\n\tpa\t0\t0\t1\t0\n\tpa.ti\t0\t0\t0\t1\n",
-    report: "otsoft report 1\ttypology\nconstraints\t3\nconstraint\t1\tNoCoda\tNoCoda\nconstraint\t2\tMax\tMax\nconstraint\t3\tDep\tDep\ninputs\t1\ninput\t1\tpat\t3\nclass\t1.1\t1 0 0\tpat\nclass\t1.2\t0 1 0\tpa\nclass\t1.3\t0 0 1\tpa.ti\nlanguages\t3\nlanguage\t1\t1\t2 3 | 1\nlanguage\t2\t2\t1 3 | 2\nlanguage\t3\t3\t1 2 | 3\nend\n",
+    report: CODA_REPORT,
 };
 
 /// Two inputs that are repaired alike.
@@ -28,7 +37,7 @@ const TWO_CODAS: Row = Row {
 const CHAIN: Row = Row {
     name: "a chain of constraints",
     file: "\t\t\tA\tB\tC\n\t\t\tA\tB\tC\nx\tp\t1\t0\t1\t0\n\tq\t0\t1\t0\t0\ny\tr\t1\t0\t0\t1\n\ts\t0\t0\t1\t0\n",
-    report: "otsoft report 1\ttypology\nconstraints\t3\nconstraint\t1\tA\tA\nconstraint\t2\tB\tB\nconstraint\t3\tC\tC\ninputs\t2\ninput\t1\tx\t2\nclass\t1.1\t0 1 0\tp\nclass\t1.2\t1 0 0\tq\ninput\t2\ty\t2\nclass\t2.1\t0 0 1\tr\nclass\t2.2\t0 1 0\ts\nlanguages\t4\nlanguage\t1\t1 1\t1 | 2 | 3\nlanguage\t2\t1 2\t1 3 | 2\nlanguage\t3\t2 1\t2 | 1 3\nlanguage\t4\t2 2\t3 | 2 | 1\nend\n",
+    report: CHAIN_REPORT,
 };
 
 /// A candidate of the second input is worse than another everywhere.
@@ -42,7 +51,7 @@ const BOUNDED: Row = Row {
 const SYLLABLES: Row = Row {
     name: "syllables",
     file: "\t\t\tOnset\tNoCoda\tMax\tDep\n\t\t\tOns\tNoC\tMax\tDep\na\t.a.\t1\t1\t0\t0\t0\n\t.ta.\t0\t0\t0\t0\t1\n\t<a>\t0\t0\t0\t1\t0\ntat\t.tat.\t1\t0\t1\t0\t0\n\t.ta.ta.\t0\t0\t0\t0\t1\n\t.ta.\t0\t0\t0\t1\t0\n",
-    report: "otsoft report 1\ttypology\nconstraints\t4\nconstraint\t1\tOns\tOnset\nconstraint\t2\tNoC\tNoCoda\nconstraint\t3\tMax\tMax\nconstraint\t4\tDep\tDep\ninputs\t2\ninput\t1\ta\t3\nclass\t1.1\t1 0 0 0\t.a.\nclass\t1.2\t0 0 0 1\t.ta.\nclass\t1.3\t0 0 1 0\t<a>\ninput\t2\ttat\t3\nclass\t2.1\t0 1 0 0\t.tat.\nclass\t2.2\t0 0 0 1\t.ta.ta.\nclass\t2.3\t0 0 1 0\t.ta.\nlanguages\t7\nlanguage\t1\t1 1\t3 4 | 1 2\nlanguage\t2\t1 2\t2 3 | 4 | 1\nlanguage\t3\t1 3\t2 4 | 3 | 1\nlanguage\t4\t2 1\t1 3 | 4 | 2\nlanguage\t5\t2 2\t1 2 3 | 4\nlanguage\t6\t3 1\t1 4 | 3 | 2\nlanguage\t7\t3 3\t1 2 4 | 3\nend\n",
+    report: SYLLABLES_REPORT,
 };
 
 /// A class between two others wins under no ranking.
@@ -77,14 +86,14 @@ const ALONE: Row = Row {
 const CHAIN_LEFT_OUT: Row = Row {
     name: "a chain with cells left out",
     file: "\t\t\tA\tB\tC\n\t\t\tA\tB\tC\nx\tp\t1\t\t1\t\n\tq\t\t1\t\t\ny\tr\t1\t\t\t1\n\ts\t\t\t1\t\n",
-    report: CHAIN.report,
+    report: CHAIN_REPORT,
 };
 
 /// The syllables with cells that are left out.
 const SYLLABLES_LEFT_OUT: Row = Row {
     name: "syllables with cells left out",
     file: "\t\t\tOnset\tNoCoda\tMax\tDep\n\t\t\tOns\tNoC\tMax\tDep\na\t.a.\t1\t1\t\t\t\n\t.ta.\t\t\t\t\t1\n\t<a>\t\t\t\t1\t\ntat\t.tat.\t1\t\t1\t\t\n\t.ta.ta.\t\t\t\t\t1\n\t.ta.\t\t\t\t1\t\n",
-    report: SYLLABLES.report,
+    report: SYLLABLES_REPORT,
 };
 
 /// A file as a spreadsheet saves it: quotes, CR LF, blank lines, and cells past the last that is used.
@@ -98,7 +107,7 @@ const SPREADSHEET: Row = Row {
 const OLD_MACHINE: Row = Row {
     name: "a byte order mark and carriage returns",
     file: "\u{feff}\t\t\tNoCoda\tMax\tDep\r\t\t\tNoCoda\tMax\tDep\rpat\tpat\t1\t1\t0\t0\r\tpa\t0\t0\t1\t0\r\tpa.ti\t0\t0\t0\t1\r",
-    report: CODA.report,
+    report: CODA_REPORT,
 };
 
 /// The least that a file may have: no abbreviation, no violation, no line end.
