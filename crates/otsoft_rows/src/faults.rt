@@ -9,6 +9,14 @@ const UNREAD: &[u8] = b"otsoft: a.txt could not be read\n";
 
 const UNWRITTEN: &[u8] = b"otsoft: the output could not be written\n";
 
+/// Two inputs, and in line 5 a violation that is no number.
+const BAD_VIOLATION: &[u8] =
+    b"\t\t\tNoCoda\tMax\tDep\n\t\t\tNoCoda\tMax\tDep\npat\tpat\t1\t1\t0\t0\n\tpa\t0\t0\t1\t0\n\tpa.ti\t0\t0\t0\t2x\ntak\ttak\t1\t1\t0\t0\n\tta\t0\t0\t1\t0\n\tta.ki\t0\t0\t0\t1\n";
+
+/// The same, with a count besides that is no number.
+const BAD_COUNT: &[u8] =
+    b"\t\t\tNoCoda\tMax\tDep\n\t\t\tNoCoda\tMax\tDep\npat\tpat\t1\t1\t0\t0\n\tpa\t0\t0\t1\t0\n\tpa.ti\t1.\t0\t0\t2x\ntak\ttak\t1\t1\t0\t0\n\tta\t0\t0\t1\t0\n\tta.ki\t0\t0\t0\t1\n";
+
 /// A file of 79 bytes, in pieces of 8: an open, ten reads of bytes and one of the end may fail.
 #[test]
 fn each_call_of_the_files_may_fail(rt: HostRuntime) -> Result<(), Fail> {
@@ -112,20 +120,38 @@ fn missing_files_are_told(rt: HostRuntime) -> Result<(), Fail> {
 /// Files with a fault, each with the first one.
 #[test]
 fn refused_files_are_told(rt: HostRuntime) -> Result<(), Fail> {
-    let rows: [(&[u8], &str); 10] = [
-        (b"\xff\xfe\t\0A\0", "a.txt:1: F1 Utf16\n"),
-        (b"", "a.txt:1: F2 NoConstraints\n"),
-        (b"\t\t\tA\t\tC\n\nx\tp", "a.txt:1: F3 EmptyName\n"),
-        (b"\t\t\tA\n\t\t\tA\tB\nx\tp", "a.txt:2: F5 ExtraCell\n"),
-        (b"\t\t\tA\n\n\tx", "a.txt:3: F6 NoInput\n"),
-        (b"\t\t\tA\n\nx", "a.txt:3: F7 EmptyCandidate\n"),
-        (b"\t\t\tA\n\n\r\nx\tp\t1.\t2x", "a.txt:4: F8 BadCount\n"),
-        (b"\t\t\tA\n\nx\tp\t1\t2x\t3", "a.txt:3: F9 BadViolation\n"),
-        (b"\t\t\tA\n\nx\tp\t1\t2\t3", "a.txt:3: F5 ExtraCell\n"),
-        (b"\t\t\tA", "a.txt:3: F12 NoRows\n"),
+    let rows: [(&str, &[u8], &str); 12] = [
+        ("u.txt", b"\xff\xfe\t\0A\0", "u.txt:1: F1 Utf16\n"),
+        ("a.txt", b"", "a.txt:1: F2 NoConstraints\n"),
+        ("a.txt", b"\t\t\tA\t\tC\n\nx\tp", "a.txt:1: F3 EmptyName\n"),
+        (
+            "a.txt",
+            b"\t\t\tA\n\t\t\tA\tB\nx\tp",
+            "a.txt:2: F5 ExtraCell\n",
+        ),
+        ("a.txt", b"\t\t\tA\n\n\tx", "a.txt:3: F6 NoInput\n"),
+        ("a.txt", b"\t\t\tA\n\nx", "a.txt:3: F7 EmptyCandidate\n"),
+        ("b.txt", BAD_VIOLATION, "b.txt:5: F9 BadViolation\n"),
+        ("b.txt", BAD_COUNT, "b.txt:5: F8 BadCount\n"),
+        (
+            "a.txt",
+            b"\t\t\tA\n\n\r\nx\tp\t1.\t2x",
+            "a.txt:4: F8 BadCount\n",
+        ),
+        (
+            "a.txt",
+            b"\t\t\tA\n\nx\tp\t1\t2x\t3",
+            "a.txt:3: F9 BadViolation\n",
+        ),
+        (
+            "a.txt",
+            b"\t\t\tA\n\nx\tp\t1\t2\t3",
+            "a.txt:3: F5 ExtraCell\n",
+        ),
+        ("a.txt", b"\t\t\tA", "a.txt:3: F12 NoRows\n"),
     ];
-    for (file, line) in &rows {
-        let left = run_on(rt.alloc(), &WORDS, &Outside::sound("a.txt", file))?;
+    for (name, file, line) in &rows {
+        let left = run_on(rt.alloc(), &["typology", name], &Outside::sound(name, file))?;
         assert_eq!(rt; left.status, Status::Refused, "{line}");
         assert!(rt; left.out.written().is_empty(), "{line}");
         assert!(rt; left.err.written() == line.as_bytes(), "{line}");
