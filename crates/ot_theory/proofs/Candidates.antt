@@ -12,14 +12,14 @@ use Rattle.std.proofs.lemmas.List.Elements.{filter-append}
 use Rattle.ot_theory.specs.Rankings.{numbers_below}
 use Rattle.ot_theory.specs.Problems.{same_profile, classes_of, is_winning, winner_of}
 
-same-refl : (x : List ℕ) → same_profile x x ≡ true
+pub same-refl : (x : List ℕ) → same_profile x x ≡ true
 same-refl x = (bytes_decides x x).1 refl
 
-same-true : (x y : List ℕ) → same_profile x y ≡ true → x ≡ y
+pub same-true : (x y : List ℕ) → same_profile x y ≡ true → x ≡ y
 same-true x y h = (bytes_decides x y).0 h
 
 -- without the profiles that are like y, one like x is found as before, if x is not like y
-any-filter : (x y : List ℕ) (profiles : List (List ℕ)) → same_profile y x ≡ false
+pub any-filter : (x y : List ℕ) (profiles : List (List ℕ)) → same_profile y x ≡ false
     → list_any (same_profile x) (filter (λ other. not (same_profile y other)) profiles) ≡ list_any (same_profile x) profiles
 any-filter x y [] h = refl
 any-filter x y (z ∷ profiles) h = elim (cases_Bool (same_profile y z)) [
@@ -29,7 +29,7 @@ any-filter x y (z ∷ profiles) h = elim (cases_Bool (same_profile y z)) [
   | inr unlike ↦ rw (unlike) (ap (λ (b : Bool). same_profile x z || b) (any-filter x y profiles h))
 ]
 
-same-flip : (x y : List ℕ) (b : Bool) → same_profile x y ≡ b → same_profile y x ≡ b
+pub same-flip : (x y : List ℕ) (b : Bool) → same_profile x y ≡ b → same_profile y x ≡ b
 same-flip x y true h = let e = same-true x y h in rw e (same-refl y)
 same-flip x y false h = false_from_ne_true (same_profile y x) (λ e. let f = same-true y x e in let g : same_profile x y ≡ true = rw f (same-refl x) in cc)
 

@@ -12,12 +12,13 @@ use Rattle.ot_theory.specs.declared.Mark.TheVariants.{W, L, E}
 use Rattle.ot_theory.specs.Rankings.{count_of, IsRanking, rankings}
 use Rattle.ot_theory.specs.Conditions.{keeps, mark_at, is_win, is_loss}
 use Rattle.ot_theory.specs.Hierarchies.{Satisfies, IsLeastHierarchy}
-use Rattle.ot_theory.specs.Demotion.{is_closed, is_blocked, level_after}
+use Rattle.ot_theory.specs.Demotion.{is_closed, is_blocked, level_after, StaysOpen}
 use Rattle.ot_theory.specs.Refutations.{no_ranking_keeps}
 use Rattle.ot_theory.proofs.Enumeration.{counted, ranking-found, ranking-within}
 use Rattle.ot_theory.proofs.Strata.{any-range, range-any, mark_at-within, place_of, below-wins, WinAbove, satisfied-WinAbove, is_win-true, is_loss-true}
 use Rattle.ot_theory.proofs.Orders.{kept-satisfied}
 use Rattle.ot_theory.proofs.Hopeless.{guarded-keeps}
+use Rattle.ot_theory.proofs.Parts.{loss-beside}
 
 -- a constraint with W that is placed
 pub record PlacedWin (levels : List ℕ) (marks : List Mark) : Type 0 where
@@ -40,7 +41,7 @@ closed-placed levels marks h =
     }
 
 -- in an open condition no constraint with W is placed
-open-unplaced : (levels : List ℕ) (marks : List Mark) (w : ℕ) → is_closed levels marks ≡ false → mark_at marks w ≡ W → slice_index levels w ≡ 0
+pub open-unplaced : (levels : List ℕ) (marks : List Mark) (w : ℕ) → is_closed levels marks ≡ false → mark_at marks w ≡ W → slice_index levels w ≡ 0
 open-unplaced levels marks w h win = elim (cases_lt 0 (slice_index levels w)) [
   | inl placed ↦
       let within = mark_at-within marks w (λ even. let no : W ≡ E = sym win ∙ even in cc) in
@@ -49,14 +50,64 @@ open-unplaced levels marks w h win = elim (cases_lt 0 (slice_index levels w)) [
   | inr none ↦ omega arith
 ]
 
+-- an open condition with L at a blocked constraint
+pub record OpenLoss (levels : List ℕ) (set : List (List Mark)) (c : ℕ) : Type 0 where
+  pub at : ℕ
+  pub within : at < length set
+  pub opened : is_closed levels (get_or set at []) ≡ false
+  pub loss : mark_at (get_or set at []) c ≡ L
+
+pub blocked-open : (levels : List ℕ) (set : List (List Mark)) (c : ℕ) → is_blocked levels set c ≡ true → OpenLoss levels set c
+blocked-open levels set c h =
+    let a = Any-from_list_any (λ marks. not (is_closed levels marks) && is_loss (mark_at marks c)) set h in
+    let same : a.1 ≡ get_or set a.0 [] = get_or_read set a.0 a.1 a.2 (sym a.3) [] in
+    let parts = and_parts _ _ a.4 in
+    record {
+      at = a.0;
+      within = a.2;
+      opened = rw (← same) (not-true _ parts.0);
+      loss = rw (← same) (is_loss-true _ parts.1);
+    }
+
+-- no condition of a part that stays open is closed
+abbrev pub KeepsOpen : ℕ → List (List Mark) → List ℕ → Type 0
+KeepsOpen n set levels = (part : List ℕ) → StaysOpen n set part → All (λ k. is_closed levels (get_or set k []) ≡ false) part
+
+-- so it is where no constraint is placed
+pub KeepsOpen-none : (n : ℕ) (set : List (List Mark)) (levels : List ℕ) → ((c : ℕ) → slice_index levels c ≡ 0) → KeepsOpen n set levels
+KeepsOpen-none n set levels none part s i d b = elim (cases_Bool (is_closed levels (get_or set (get_or part i d) []))) [
+  | inl closed ↦ let w = closed-placed levels (get_or set (get_or part i d) []) closed in absurd (omega (arith, w.placed, none w.it))
+  | inr opened ↦ opened
+]
+
+-- and it stays so where only free constraints are placed
+pub KeepsOpen-free : (n : ℕ) (set : List (List Mark)) (old new : List ℕ) → All (λ marks. length marks ≡ n) set → ((c : ℕ) → 0 < slice_index new c → slice_index old c ≡ 0 → is_blocked old set c ≡ false) → KeepsOpen n set old → KeepsOpen n set new
+KeepsOpen-free n set old new widths free h part s i d b = elim (cases_Bool (is_closed new (get_or set (get_or part i d) []))) [
+  | inl closed ↦ absurd (shut (closed-placed new (get_or set (get_or part i d) []) closed))
+  | inr opened ↦ opened
+]
+  where
+    -- a constraint at which a condition of the part has W is blocked by another one of the part
+    shut : PlacedWin new (get_or set (get_or part i d) []) → ⊥
+    shut w =
+        let marks : List Mark = get_or set (get_or part i d) [] in
+        let none : slice_index old w.it ≡ 0 = open-unplaced old marks w.it (h part s i d b) w.win in
+        let f = loss-beside n set part w.it i d s (omega (arith, w.within, widths (get_or part i d) [] (s.within i d b))) b w.win in
+        let blocked : is_blocked old set w.it ≡ true =
+        list_any_at (λ m. not (is_closed old m) && is_loss (mark_at m w.it)) set (get_or part f.at 0) [] (s.within f.at 0 f.within) (and_from _ _ (ap not (h part s f.at 0 f.within)) f.passes) in
+        let other : is_blocked old set w.it ≡ false = free w.it w.placed none in
+        cc
+
 -- After r rounds the numbers are at most r and at most those of every hierarchy that satisfies the set, in which the
--- constraints that are not placed have greater numbers than r. Each L at a placed constraint has a W above it.
+-- constraints that are not placed have greater numbers than r. Each L at a placed constraint has a W above it. A part that
+-- stays open has no closed condition.
 pub record AreRounds (n : ℕ) (set : List (List Mark)) (r : ℕ) (levels : List ℕ) : Type 0 where
   pub width : length levels ≡ n
   pub within : (c : ℕ) → slice_index levels c ≤ r
   pub least : (other : List ℕ) → Satisfies n set other → (c : ℕ) → slice_index levels c ≤ slice_index other c
   pub later : (other : List ℕ) → Satisfies n set other → (c : ℕ) → c < n → slice_index levels c ≡ 0 → r < slice_index other c
   pub guarded : All (λ marks. (d : ℕ) → mark_at marks d ≡ L → 0 < slice_index levels d → (w : PlacedWin levels marks) × (slice_index levels w.it < slice_index levels d)) set
+  pub stays : KeepsOpen n set levels
 
 pub AreRounds-none : (n : ℕ) (set : List (List Mark)) (levels : List ℕ) → length levels ≡ n → All (λ level. level ≡ 0) levels → AreRounds n set 0 levels
 AreRounds-none n set levels width unplaced = record {
@@ -65,6 +116,7 @@ AreRounds-none n set levels width unplaced = record {
   least = λ other s c. omega (arith, none c);
   later = λ other s c below e. s.from_one c 0 (omega (arith, s.width));
   guarded = λ k m b d loss placed. absurd (omega (arith, none d));
+  stays = KeepsOpen-none n set levels none;
 }
   where
     none : (c : ℕ) → slice_index levels c ≡ 0
@@ -101,25 +153,6 @@ change_of set given old new round c = elim (leb_tells (length new) c) [
     by below e (inr other) b = Kept (omega (arith, other.1)) (e ∙ level_kept _ _ _ other.1)
     by below e (inl none) (inl blocked) = Left none.1 blocked (rw (none.1, blocked) at e)
     by below e (inl none) (inr free) = Given below none.1 free (rw (none.1, free) at e)
-
--- an open condition with L at a blocked constraint
-record OpenLoss (levels : List ℕ) (set : List (List Mark)) (c : ℕ) : Type 0 where
-  at : ℕ
-  within : at < length set
-  opened : is_closed levels (get_or set at []) ≡ false
-  loss : mark_at (get_or set at []) c ≡ L
-
-blocked-open : (levels : List ℕ) (set : List (List Mark)) (c : ℕ) → is_blocked levels set c ≡ true → OpenLoss levels set c
-blocked-open levels set c h =
-    let a = Any-from_list_any (λ marks. not (is_closed levels marks) && is_loss (mark_at marks c)) set h in
-    let same : a.1 ≡ get_or set a.0 [] = get_or_read set a.0 a.1 a.2 (sym a.3) [] in
-    let parts = and_parts _ _ a.4 in
-    record {
-      at = a.0;
-      within = a.2;
-      opened = rw (← same) (not-true _ parts.0);
-      loss = rw (← same) (is_loss-true _ parts.1);
-    }
 
 free-closed : (levels : List ℕ) (set : List (List Mark)) (c k : ℕ) (d : List Mark) → k < length set → is_blocked levels set c ≡ false → mark_at (get_or set k d) c ≡ L → is_closed levels (get_or set k d) ≡ true
 free-closed levels set c k d b free loss = elim (cases_Bool (is_closed levels (get_or set k d))) [
@@ -161,6 +194,12 @@ AreRounds-more n set r old new widths round h = record {
     | Left z b e ↦ absurd (omega arith)
     | Past p e ↦ absurd (omega arith)
   ];
+  stays = KeepsOpen-free n set old new widths (λ c placed none. elim (change c) [
+    | Kept p e ↦ absurd (omega arith)
+    | Given below z free e ↦ free
+    | Left z b e ↦ absurd (omega arith)
+    | Past p e ↦ absurd (omega arith)
+  ]) h.stays;
 }
   where
     change : (c : ℕ) → Change set (r + 1) old new c
@@ -221,15 +260,29 @@ hopeless-blocked n set levels c below none blocked = elim (cases_Bool (list_any 
           absurd (omega (arith, w.before, open-unplaced levels (get_or set o.at []) (get_or order w.at 0) o.opened w.win, all_placed order r kept m w.at (omega (arith, w.before)) (omega (arith, w.before))))
     ]
 
--- the same, where a round placed nothing
-pub hopeless-idle : (n : ℕ) (set : List (List Mark)) (given : ℕ) (old new : List ℕ) → length old ≡ n → 0 < given → IsRound set given old new → new ≡ old → Contains new 0 → no_ranking_keeps n set ≡ true
-hopeless-idle n set given old new width some round same h =
-    hopeless-blocked n set old h.0 (omega (arith, h.1, round.same)) (ap (λ (levels : List ℕ). slice_index levels h.0) (sym same) ∙ h.2) (λ d below none. elim (change_of set given old new round d) [
-      | Kept p e ↦ absurd (omega arith)
-      | Given within z free e ↦ absurd (omega (arith, ap (λ (levels : List ℕ). slice_index levels d) same))
-      | Left z blocked e ↦ blocked
-      | Past p e ↦ absurd (omega (arith, round.same))
-    ])
+-- Demotion is at its end: each constraint that is not placed is blocked.
+pub record IsStuck (n : ℕ) (set : List (List Mark)) (levels : List ℕ) : Type 0 where
+  pub blocked : (d : ℕ) → d < n → slice_index levels d ≡ 0 → is_blocked levels set d ≡ true
+  pub left : ℕ
+  pub below : left < n
+  pub unplaced : slice_index levels left ≡ 0
+
+-- it is, where a round placed nothing and a constraint is left
+pub IsStuck-idle : (n : ℕ) (set : List (List Mark)) (given : ℕ) (old new : List ℕ) → length old ≡ n → 0 < given → IsRound set given old new → new ≡ old → Contains new 0 → IsStuck n set new
+IsStuck-idle n set given old new width some round same h = rw same (record {
+  blocked = λ d below none. elim (change_of set given old new round d) [
+    | Kept p e ↦ absurd (omega arith)
+    | Given within z free e ↦ absurd (omega (arith, ap (λ (levels : List ℕ). slice_index levels d) same))
+    | Left z blocked e ↦ blocked
+    | Past p e ↦ absurd (omega (arith, round.same))
+  ];
+  left = h.0;
+  below = omega (arith, h.1, round.same);
+  unplaced = ap (λ (levels : List ℕ). slice_index levels h.0) (sym same) ∙ h.2;
+})
+
+pub hopeless-stuck : (n : ℕ) (set : List (List Mark)) (levels : List ℕ) → IsStuck n set levels → no_ranking_keeps n set ≡ true
+hopeless-stuck n set levels s = hopeless-blocked n set levels s.left s.below s.unplaced s.blocked
 
 pub counted-none : (levels : List ℕ) → count_of 0 levels ≡ 0 → Contains levels 0 → ⊥
 counted-none levels e h =

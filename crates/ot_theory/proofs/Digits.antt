@@ -1,7 +1,7 @@
 -- The number of a choice, read input by input.
 use Rattle.std.proofs.Common.{◌≡◌, ℕ, zero, suc, ◌+◌, ◌*◌, ◌/◌, ◌%◌, ◌<◌, ◌≤◌, List, [], ◌∷◌, arith, refl, sym, ◌∙◌, ap, length, drop, slice_index}
 use Rattle.std.proofs.Math.Nat.{mul_assoc, div-lt_iff_lt-mul, mul-div_cancel_left}
-use Rattle.std.proofs.lemmas.List.Elements.{All-drop, All-head, All-tail}
+use Rattle.std.proofs.lemmas.List.Elements.{All-drop, All-tail}
 use Rattle.ot_theory.specs.Problems.{Input}
 use Rattle.ot_theory.specs.Languages.{choice_count, choice_at}
 use Rattle.ot_theory.proofs.Optimal.{classes_in}

@@ -3,7 +3,7 @@ use Rattle.std.proofs.Common.{◌≡◌, ℕ, List, [], ◌∷◌, map, refl}
 use Rattle.std.specs.Prelude.{true}
 use Rattle.ot_theory.specs.declared.Mark.TheVariants.{W, L, E}
 use Rattle.ot_theory.specs.Rankings.{rankings, put_somewhere}
-use Rattle.ot_theory.specs.Hierarchies.{satisfies}
+use Rattle.ot_theory.specs.Hierarchies.{satisfies, order_along}
 use Rattle.ot_theory.specs.Problems.{Problem, input_of}
 use Rattle.ot_theory.specs.Languages.{languages, choices, refuted, conditions_of, Term}
 use Rattle.ot_theory.specs.Refutations.{certificates, certificate_named, cuts, prefixes, no_ranking_keeps, certificate_of}
@@ -35,6 +35,9 @@ conditions_of_first = refl
 
 pub satisfied : satisfies (2 ∷ 1 ∷ 1 ∷ []) (L ∷ W ∷ E ∷ []) ≡ true
 satisfied = refl
+
+pub two_strata : order_along (2 ∷ 1 ∷ 2 ∷ 1 ∷ []) ≡ 1 ∷ 3 ∷ 0 ∷ 2 ∷ []
+two_strata = refl
 
 abbrev t : ℕ → ℕ → ℕ → Term
 t i a b = record { input = i; winner = a; loser = b }

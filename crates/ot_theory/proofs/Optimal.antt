@@ -51,7 +51,7 @@ optimal-conditions n order classes a ranking c la =
     ∙ others a (length classes) (λ b. better order (slice_index_or classes a []) (slice_index_or classes b [])) (λ b. keeps order (condition (slice_index_or classes a []) (slice_index_or classes b [])))
     (λ b lb ne. better-condition n order classes a b ranking c la lb ne) 0 (length classes) (omega arith)
 
-all-flat_map : {X Y : Type 0} (p : Y → Bool) (f : X → List Y) (xs : List X) → list_all p (flat_map f xs) ≡ list_all (λ x. list_all p (f x)) xs
+pub all-flat_map : {X Y : Type 0} (p : Y → Bool) (f : X → List Y) (xs : List X) → list_all p (flat_map f xs) ≡ list_all (λ x. list_all p (f x)) xs
 all-flat_map p f [] = refl
 all-flat_map p f (x ∷ xs) = list_all-append p (f x) (flat_map f xs) ∙ ap (λ (b : Bool). list_all p (f x) && b) (all-flat_map p f xs)
 

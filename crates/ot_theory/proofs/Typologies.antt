@@ -2,13 +2,13 @@
 use Rattle.std.proofs.Common.{◌≡◌, ℕ, ◌+◌, List, [], ◌∷◌, ◌++◌, true, false, not, arith, refl, sym, ◌∙◌, ap, cond, map, Option, Some, None, MatchOption}
 use Rattle.std.specs.Prelude.{All, filter, IfSome, IfNone}
 use Rattle.std.proofs.lemmas.List.{map_push, append-nil}
-use Rattle.std.proofs.lemmas.List.Elements.{All-push, All-nil}
+use Rattle.std.proofs.lemmas.List.Elements.{All-push}
 use Rattle.std.proofs.lemmas.List.FromFn.{filter_of_map_range_with_len_more}
 use Rattle.ot_theory.specs.declared.Mark.{Mark}
 use Rattle.ot_theory.specs.Rankings.{numbers_below}
 use Rattle.ot_theory.specs.Hierarchies.{IsLeastHierarchy}
 use Rattle.ot_theory.specs.Problems.{Problem}
-use Rattle.ot_theory.specs.Languages.{choices, choice_at, choice_count, refuted, languages, conditions_of, IsTypology}
+use Rattle.ot_theory.specs.Languages.{choice_at, choice_count, refuted, languages, conditions_of, IsTypology}
 use Rattle.ot_theory.specs.Refutations.{no_ranking_keeps}
 use Rattle.ot_theory.proofs.Optimal.{AllFit, refuted-conditions}
 use Rattle.ot_theory.proofs.Choices.{EachSome, choices-numbered}

@@ -1,6 +1,6 @@
 -- Hierarchies: each constraint has a stratum number, from 1 on. A smaller number stands higher.
-use Rattle.std.specs.Prelude.{◌≡◌, ℕ, ◌≤◌, Bool, true, false, not, ◌&&◌, ◌||◌, IsTrue, List, [], ◌∷◌, length, slice_index, nat_lt, min, All, Option, Some, None, if◌then◌else◌}
-use Rattle.std.specs.List.{list_any, list_all}
+use Rattle.std.specs.Prelude.{◌≡◌, ℕ, ◌≤◌, Bool, true, false, not, ◌&&◌, ◌||◌, IsTrue, List, [], ◌∷◌, length, slice_index, nat_lt, min, All, Option, Some, None, filter, flat_map, fold, max, ◌==◌, if◌then◌else◌}
+use Rattle.std.specs.List.{list_any, list_all, range_with_len}
 use Rattle.std.specs.Option.{option_map_or}
 use Rattle.ot_theory.specs.declared.Mark.{Mark}
 use Rattle.ot_theory.specs.Rankings.{numbers_below}
@@ -32,6 +32,14 @@ IsAtMostEvery n set levels = (other : List ℕ) → Satisfies n set other → (c
 pub record IsLeastHierarchy (n : ℕ) (set : List (List Mark)) (levels : List ℕ) : Type 0 where
   pub satisfying : Satisfies n set levels
   pub least : IsAtMostEvery n set levels
+
+-- the constraints of a stratum, ascending
+abbrev pub in_stratum : List ℕ → ℕ → List ℕ
+in_stratum levels s = filter (λ c. slice_index levels c == s) (numbers_below (length levels))
+
+-- the constraints by stratum number, from 1 to the greatest, and within a stratum ascending
+abbrev pub order_along : List ℕ → List ℕ
+order_along levels = flat_map (in_stratum levels) (range_with_len 1 (fold max 0 levels))
 
 -- The wording of the textbook: the smallest stratum number of the constraints with a mark that passes, if there are any.
 abbrev pub least_number : (Mark → Bool) → List ℕ → List Mark → Option ℕ

@@ -1,5 +1,5 @@
 -- Choices of one class per input, and which of them are languages.
-use Rattle.std.specs.Prelude.{◌≡◌, ℕ, ◌*◌, ◌/◌, ◌%◌, Bool, true, false, not, ◌&&◌, List, [], ◌∷◌, map, length, slice_index_or, ◌==◌, filter, flat_map, slice_get, All}
+use Rattle.std.specs.Prelude.{◌≡◌, ℕ, ◌*◌, ◌/◌, ◌%◌, Bool, true, false, not, ◌&&◌, List, [], ◌∷◌, map, length, slice_index_or, ◌==◌, filter, flat_map, slice_get, Option, option_and_then, All}
 use Rattle.std.specs.List.{list_any, enumerate_from}
 use Rattle.std.specs.Option.{option_map_or}
 use Rattle.ot_theory.specs.declared.Mark.{Mark}
@@ -50,6 +50,14 @@ pub record Term : Type 0 where
 -- the classes of an input, and none past the last input
 abbrev pub classes_at : Problem → ℕ → List (List ℕ)
 classes_at problem i = option_map_or (λ input. input.classes) (slice_get problem.inputs i) []
+
+-- the class of the winner of an input, if it has one
+abbrev pub winner_at : Problem → ℕ → Option ℕ
+winner_at problem i = option_and_then (λ input. input.winner) (slice_get problem.inputs i)
+
+-- the positions of the candidates of a class of an input
+abbrev pub members_at : Problem → ℕ → ℕ → List ℕ
+members_at problem i a = slice_index_or (option_map_or (λ input. input.members) (slice_get problem.inputs i) []) a []
 
 -- the profile of a class of an input
 abbrev pub profile_at : Problem → ℕ → ℕ → List ℕ

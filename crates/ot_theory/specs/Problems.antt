@@ -1,12 +1,14 @@
 -- Problems: a number of constraints, and inputs whose candidates fall into classes of equal profiles.
-use Rattle.std.specs.Prelude.{ℕ, Bool, not, ◌&&◌, List, [], ◌∷◌, length, slice_index, slice_index_or, nat_lt, nat_le, nat_eq, filter, find, position, take, drop, Option, option_and_then}
+use Rattle.std.specs.Prelude.{ℕ, Bool, not, ◌&&◌, List, [], ◌∷◌, map, length, slice_index, slice_index_or, nat_lt, nat_le, nat_eq, filter, find, position, take, drop, Option, option_and_then}
 use Rattle.std.specs.List.{list_all}
 use Rattle.std.specs.Cmp.Lexicographic.{pointwise}
 use Rattle.ot_theory.specs.Rankings.{numbers_below}
 
--- An input: its distinct profiles in order of first candidate, each of which is a class, and the class of its winner.
+-- An input: its distinct profiles in order of first candidate, each of which is a class; the positions of the candidates
+-- of each class; and the class of its winner.
 pub record Input : Type 0 where
   pub classes : List (List ℕ)
+  pub members : List (List ℕ)
   pub winner : Option ℕ
 
 pub record Problem : Type 0 where
@@ -39,4 +41,5 @@ winner_of profiles counts =
 
 -- an input of candidates with these profiles and these counts
 abbrev pub input_of : List (List ℕ) → List ℕ → Input
-input_of profiles counts = record { classes = classes_of profiles; winner = winner_of profiles counts }
+input_of profiles counts =
+    record { classes = classes_of profiles; members = map (members_of profiles) (classes_of profiles); winner = winner_of profiles counts }

@@ -1,12 +1,12 @@
 -- Contradictions, cuts, and the certificates that show that a prefix is refuted.
-use Rattle.std.specs.Prelude.{ℕ, Bool, false, not, ◌&&◌, ◌||◌, List, [], ◌∷◌, ◌++◌, map, length, take, slice_get, ◌==◌, nat_lt, filter, flat_map, fold, if◌then◌else◌}
+use Rattle.std.specs.Prelude.{◌≡◌, ℕ, Bool, false, not, ◌&&◌, ◌||◌, List, [], ◌∷◌, ◌++◌, map, length, take, slice_get, ◌==◌, nat_lt, filter, find, flat_map, fold, Option, option_map, if◌then◌else◌}
 use Rattle.std.specs.List.{list_any, list_all, position_or_len}
 use Rattle.std.specs.Option.{option_map_or}
 use Rattle.ot_theory.specs.declared.Mark.{Mark}
 use Rattle.ot_theory.specs.Rankings.{numbers_below, rankings}
 use Rattle.ot_theory.specs.Conditions.{keeps, fusion, is_contradictory}
 use Rattle.ot_theory.specs.Problems.{Input, Problem}
-use Rattle.ot_theory.specs.Languages.{Term, classes_at, terms_of, condition_of, refuted}
+use Rattle.ot_theory.specs.Languages.{Term, classes_at, winner_at, terms_of_class, terms_of, condition_of, refuted}
 
 -- no ranking of n constraints keeps all these conditions
 unfoldable pub no_ranking_keeps : ℕ → List (List Mark) → Bool
@@ -24,17 +24,41 @@ is_term problem term =
 abbrev pub agree : Term → Term → Bool
 agree s t = not (s.input == t.input) || (s.winner == t.winner)
 
+-- no two of the terms give an input two winners
+abbrev pub one_winner_each : List Term → Bool
+one_winner_each terms = list_all (λ s. list_all (agree s) terms) terms
+
 -- A contradiction of a problem: some of its terms, with one winner for each input, whose conditions fuse to an L and no W.
 unfoldable pub is_contradiction : Problem → List Term → Bool
 is_contradiction problem terms =
     not (length terms == 0)
     && list_all (is_term problem) terms
-    && list_all (λ s. list_all (agree s) terms) terms
+    && one_winner_each terms
     && is_contradictory (fusion problem.constraints (map (condition_of problem) terms))
 
 -- It refutes a prefix that makes each of its winner choices.
 abbrev pub refutes : List Term → List ℕ → Bool
 refutes terms prefix = list_all (λ term. option_map_or (λ a. a == term.winner) (slice_get prefix term.input) false) terms
+
+-- the first winner that the terms give an input
+abbrev pub winner_in : List Term → ℕ → Option ℕ
+winner_in terms i = option_map (λ term. term.winner) (find (λ term. term.input == i) terms)
+
+-- the winner of an input, if it has one, against each other class of it
+abbrev pub terms_of_winner : Problem → ℕ → List Term
+terms_of_winner problem i = option_map_or (terms_of_class (classes_at problem i) i) (winner_at problem i) []
+
+-- the same of all inputs, in order of input and then of loser
+abbrev pub terms_of_winners : Problem → List Term
+terms_of_winners problem = flat_map (terms_of_winner problem) (numbers_below (length problem.inputs))
+
+-- what the winners ask of a ranking
+abbrev pub conditions_of_winners : Problem → List (List Mark)
+conditions_of_winners problem = map (condition_of problem) (terms_of_winners problem)
+
+-- No ranking keeps the conditions of the winners.
+abbrev pub is_contradicted : Problem → Bool
+is_contradicted problem = no_ranking_keeps problem.constraints (conditions_of_winners problem)
 
 -- all prefixes of choices, in lexicographic order
 unfoldable pub prefixes : List Input → List (List ℕ)
@@ -57,6 +81,11 @@ kept_of hopeless before (term ∷ terms) =
 -- the certificate of terms that no ranking keeps
 unfoldable pub certificate_of : Problem → List Term → List Term
 certificate_of problem terms = kept_of (λ rest. no_ranking_keeps problem.constraints (map (condition_of problem) rest)) [] terms
+
+-- Without any one of the terms some ranking keeps the conditions of the others.
+abbrev pub EachIsNeeded : Problem → List Term → Type 0
+EachIsNeeded problem terms = (before : List Term) (term : Term) (behind : List Term) → terms ≡ before ++ term ∷ behind
+    → no_ranking_keeps problem.constraints (map (condition_of problem) (before ++ behind)) ≡ false
 
 -- the certificates so far, and that of a cut which none of them refutes
 abbrev pub with_certificate : Problem → List (List Term) → List ℕ → List (List Term)

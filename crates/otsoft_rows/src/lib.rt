@@ -7,6 +7,8 @@ mod faults;
 #[cfg(test)]
 mod outside;
 #[cfg(test)]
+mod rankings;
+#[cfg(test)]
 mod reports;
 #[cfg(test)]
 mod sizes;

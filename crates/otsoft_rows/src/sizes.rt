@@ -45,7 +45,8 @@ fn typology_of(alloc: Global, file: &str) -> Result<Left, erc_vectors::NoMemory>
     )
 }
 
-/// Sixteen inputs of two classes have 65,536 choices, all of which are tried, and seventeen have too many.
+/// Sixteen inputs of two classes have 65,536 choices, all of which are tried, and seventeen have too many
+/// for a typology alone.
 #[test]
 fn the_greatest_number_of_choices(rt: HostRuntime) -> Result<(), Fail> {
     let alloc = rt.alloc();
@@ -58,6 +59,12 @@ fn the_greatest_number_of_choices(rt: HostRuntime) -> Result<(), Fail> {
     assert_eq!(rt; left.status, Status::Refused);
     assert!(rt; left.out.written().is_empty());
     assert!(rt; left.err.written() == b"a.txt:1: F0 NotYet\n".as_slice());
+    let left = run_on(
+        alloc,
+        &["rank", "a.txt"],
+        &Outside::sound("a.txt", file.as_bytes()),
+    )?;
+    assert_eq!(rt; left.status, Status::Done);
     Ok(())
 }
 

@@ -28,9 +28,11 @@ impl Files for Closed {
 #[test]
 fn bad_words_open_no_file(rt: HostRuntime) -> Result<(), Fail> {
     let alloc = rt.alloc();
-    let rows: [&[&str]; 13] = [
+    let rows: [&[&str]; 15] = [
         &[],
         &["typology"],
+        &["rank"],
+        &["rank", "a", "--workers", "1"],
         &["typology", "a", "b"],
         &["frob", "a"],
         &["typolog", "a"],
@@ -62,9 +64,10 @@ fn bad_words_open_no_file(rt: HostRuntime) -> Result<(), Fail> {
 
 #[test]
 fn words_name_their_file(rt: HostRuntime) -> Result<(), Fail> {
-    let rows: [(&[&str], &str); 6] = [
+    let rows: [(&[&str], &str); 7] = [
         (&["typology", "a"], "a"),
         (&["--", "typology", "a"], "a"),
+        (&["rank", "--", "-a"], "-a"),
         (&["typology", "--", "-a"], "-a"),
         (&["typology", "-"], "-"),
         (&["typology", "--", "--"], "--"),

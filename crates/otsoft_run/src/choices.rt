@@ -2,12 +2,12 @@
 
 ghost use Rattle.std.specs.Prelude.{◌≡◌, ◌<◌, ◌≤◌, map, IfOk, IfSome, IfNone};
 ghost use Rattle.ot_theory.specs.Languages.{choice_at, choice_count};
-ghost use Rattle.otsoft_run.specs.WellFormed.{IsPrefix, IsWellFormed};
+ghost use Rattle.violation_profiles.specs.WellFormed.{IsPrefix, IsWellFormed};
 
-use crate::problem::Problem;
 use erc_vectors::{List, NoMemory};
 use ot_base::{ClassId, InId};
 use std::alloc::Global;
+use violation_profiles::Problem;
 
 /// How many choices there are, and None where there are more than the limit.
 pub(crate) fn choice_count_within(problem: &Problem, limit: usize) -> Option<usize>

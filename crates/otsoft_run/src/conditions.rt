@@ -2,12 +2,12 @@
 
 ghost use Rattle.std.specs.Prelude.{◌≡◌, ◌<◌, ◌++◌, All, length, map, IfOk, OnOk};
 ghost use Rattle.ot_theory.specs.Languages.{classes_at, condition_of, conditions_of, terms_of_class};
-ghost use Rattle.otsoft_run.specs.WellFormed.{IsPrefix};
+ghost use Rattle.violation_profiles.specs.WellFormed.{IsPrefix};
 
-use crate::problem::Problem;
 use erc_vectors::{Condition, List, NoMemory};
 use ot_base::{ClassId, InId};
 use std::alloc::Global;
+use violation_profiles::Problem;
 
 /// The conditions of the first classes of a choice, each over the other classes of its input, in order of input and
 /// then of loser.

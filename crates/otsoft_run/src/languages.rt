@@ -5,17 +5,17 @@ ghost use Rattle.ot_theory.specs.Hierarchies.{IsLeastHierarchy};
 ghost use Rattle.ot_theory.specs.Languages.{choice_count, conditions_of, refuted, IsTypology};
 ghost use Rattle.otsoft_run.specs.declared.judging.TheConstants.{CHOICE_LIMIT};
 ghost use Rattle.otsoft_run.specs.Found.{found_of};
-ghost use Rattle.otsoft_run.specs.WellFormed.{IsPrefix};
+ghost use Rattle.violation_profiles.specs.WellFormed.{IsPrefix};
 
 use crate::choices::{choice_at, choice_count_within};
 use crate::conditions::conditions_of;
-use crate::demotion::least_hierarchy;
 use crate::judging::CHOICE_LIMIT;
 use crate::language::Language;
-use crate::problem::Problem;
+use demotion::least_hierarchy;
 use erc_vectors::{List, NoMemory, Strata};
 use ot_base::ClassId;
 use std::alloc::Global;
+use violation_profiles::Problem;
 
 /// The languages in lexicographic order of their choices, found by trying each choice.
 pub(crate) fn languages_of(alloc: Global, problem: &Problem) -> Result<List<Language>, NoMemory>

@@ -2,16 +2,17 @@
 
 ghost use Rattle.std.specs.Prelude.{◌≡◌, ◌≤◌, ◌+◌, ℕ, List, drop, Ok, Err, Some, IfOk, OnOk};
 ghost use Rattle.tableau_file.specs.declared.limits.TheConstants.{FILE_LIMIT};
-ghost use Rattle.ot_theory.specs.Languages.{choice_count};
 ghost use Rattle.ot_base.specs.Causes.{next_number};
 ghost use Rattle.ot_base.specs.Outside.{KeepsFiles, FilesRose};
+ghost use Rattle.ot_base.specs.Acceptable.{IsAcceptable};
 ghost use Rattle.ot_base.specs.Tableaus.{problem_of};
-ghost use Rattle.otsoft_run.specs.declared.judging.TheConstants.{CHOICE_LIMIT};
 ghost use Rattle.otsoft_run.specs.Answers.{judged, refusal_of};
-ghost use Rattle.otsoft_run.specs.Poses.{IsReadThrough};
+ghost use Rattle.otsoft_run.specs.Poses.{IsReadThrough, IsTried};
+ghost use Rattle.otsoft_run.specs.Words.{file_of};
 
 use crate::judging::{JudgeError, Posed, Reason, judge};
 use crate::reading::{ReadEnd, read_whole};
+use crate::words::Settings;
 use ot_base::Files;
 use std::alloc::Global;
 
@@ -23,25 +24,30 @@ pub(crate) enum PoseError {
     NoMemory,
 }
 
-/// Reads a file to its end and judges it.
-pub(crate) fn pose<F: Files>(alloc: Global, files: &mut F, file: &str) -> Result<Posed, PoseError>
-    ensures accepted { IfOk result (λ posed. (bytes : List ℕ) → (F.told files.old).stored file.now ≡ Some bytes → judged file.now bytes ≡ Ok posed) }
+/// Reads the file of a command to its end and judges it.
+pub(crate) fn pose<F: Files>(
+    alloc: Global,
+    files: &mut F,
+    settings: &Settings,
+) -> Result<Posed, PoseError>
+    ensures accepted { IfOk result (λ posed. (bytes : List ℕ) → (F.told files.old).stored (file_of settings.now) ≡ Some bytes → judged settings.now bytes ≡ Ok posed) }
     ensures poses { IfOk result (λ posed. posed.problem ≡ problem_of posed.tableau) }
-    ensures few { IfOk result (λ posed. choice_count posed.problem.inputs ≤ CHOICE_LIMIT) }
-    ensures refused { (line : ℕ) (reason : Reason) → result ≡ Err (PoseError.Refused line reason) → (bytes : List ℕ) → (F.told files.old).stored file.now ≡ Some bytes
-        → judged file.now bytes ≡ Err (refusal_of file.now line reason) }
+    ensures acceptable { IfOk result (λ posed. IsAcceptable posed.tableau) }
+    ensures tried { IfOk result (λ posed. IsTried settings.now posed) }
+    ensures refused { (line : ℕ) (reason : Reason) → result ≡ Err (PoseError.Refused line reason) → (bytes : List ℕ) → (F.told files.old).stored (file_of settings.now) ≡ Some bytes
+        → judged settings.now bytes ≡ Err (refusal_of (file_of settings.now) line reason) }
     ensures read_through { IsReadThrough result → ((F.told files.new).failed ≡ (F.told files.old).failed)
-        × ((bytes : List ℕ) → (F.told files.old).stored file.now ≡ Some bytes → (F.told files.new).left ≡ Some (drop (FILE_LIMIT + 1) bytes)) }
-    ensures fault { result ≡ Err PoseError.Fault → FilesRose file.now (F.told files.old) (F.told files.new) }
+        × ((bytes : List ℕ) → (F.told files.old).stored (file_of settings.now) ≡ Some bytes → (F.told files.new).left ≡ Some (drop (FILE_LIMIT + 1) bytes)) }
+    ensures fault { result ≡ Err PoseError.Fault → FilesRose (file_of settings.now) (F.told files.old) (F.told files.new) }
     ensures failed { result ≡ Err PoseError.Fault → (F.told files.new).failed ≡ next_number (F.told files.old).failed }
     ensures keeps { KeepsFiles (F.told files.old) (F.told files.new) }
 {
-    let bytes = match read_whole(alloc, files, file) {
+    let bytes = match read_whole(alloc, files, settings.file()) {
         Ok(bytes) => bytes,
         Err(ReadEnd::Fault) => return Err(PoseError::Fault),
         Err(ReadEnd::NoMemory) => return Err(PoseError::NoMemory),
     };
-    match judge(alloc, bytes.as_slice()) {
+    match judge(alloc, settings, bytes.as_slice()) {
         Ok(posed) => Ok(posed),
         Err(JudgeError::Refused { line, reason }) => Err(PoseError::Refused { line, reason }),
         Err(JudgeError::NoMemory) => Err(PoseError::NoMemory),

@@ -1,24 +1,88 @@
-//! The report of a typology: the languages, and their text.
+//! The report of a command.
 
-ghost use Rattle.std.specs.Prelude.{◌≡◌, ◌≤◌, IfOk};
-ghost use Rattle.ot_theory.specs.Languages.{choice_count};
+ghost use Rattle.std.specs.Prelude.{◌≡◌, ◌≤◌, IfOk, IsTrue};
+ghost use Rattle.ot_base.specs.Acceptable.{IsAcceptable};
 ghost use Rattle.ot_base.specs.Tableaus.{problem_of};
+ghost use Rattle.ot_theory.specs.Languages.{choice_count};
+ghost use Rattle.ot_theory.specs.Refutations.{is_contradicted};
 ghost use Rattle.otsoft_run.specs.declared.judging.TheConstants.{CHOICE_LIMIT};
-ghost use Rattle.otsoft_run.specs.Answers.{IsTypologyReport};
+ghost use Rattle.otsoft_run.specs.Answers.{IsReport, IsTypologyReport, IsRankReport, is_written, status_by, written_status};
+ghost use Rattle.otsoft_run.specs.Poses.{IsTried};
 
 use crate::judging::Posed;
 use crate::languages::languages_of;
-use crate::text::Text;
+use crate::status::Status;
 use crate::typology_text::typology_text;
+use crate::words::Settings;
+use demotion::least_hierarchy;
 use erc_vectors::NoMemory;
+use ot_base::Label;
+use refutation::{conditions_of, core_of, winner_terms};
+use report_text::{contradiction_text, rank_text};
 use std::alloc::Global;
 
+/// A report, and the status of a run that wrote it whole.
+#[derive(Debug, Drop)]
+pub(crate) struct Report {
+    pub(crate) text: Label,
+    pub(crate) status: Status,
+}
+
+/// The report of a command on what its file poses.
+pub(crate) fn report_of(
+    alloc: Global,
+    settings: &Settings,
+    posed: &Posed,
+) -> Result<Report, NoMemory>
+    requires poses { posed.now.problem ≡ problem_of posed.now.tableau }
+    requires acceptable { IsAcceptable posed.now.tableau }
+    requires tried { IsTried settings.now posed.now }
+    ensures report { IfOk result (λ report. IsReport settings.now posed.now report.text) }
+    ensures status { IfOk result (λ report. report.status ≡ written_status settings.now posed.now) }
+    ensures written { IfOk result (λ report. IsTrue (is_written report.status)) }
+{
+    match settings {
+        Settings::Typology { .. } => Ok(Report {
+            text: typology_report(alloc, posed)?,
+            status: Status::Done,
+        }),
+        Settings::Rank { .. } => rank_report(alloc, posed),
+    }
+}
+
 /// The report of the languages of a tableau.
-pub(crate) fn typology_report(alloc: Global, posed: &Posed) -> Result<Text, NoMemory>
+fn typology_report(alloc: Global, posed: &Posed) -> Result<Label, NoMemory>
     requires poses { posed.now.problem ≡ problem_of posed.now.tableau }
     requires few { choice_count posed.now.problem.inputs ≤ CHOICE_LIMIT }
     ensures { IfOk result (λ report. IsTypologyReport posed.now report) }
 {
     let found = languages_of(alloc, &posed.problem)?;
-    typology_text(alloc, &posed.tableau, &posed.problem, found.as_slice())
+    let text = typology_text(alloc, &posed.tableau, &posed.problem, found.as_slice())?;
+    Ok(text.into_label())
+}
+
+/// The report of the least hierarchy of the winners, or of why there is none.
+fn rank_report(alloc: Global, posed: &Posed) -> Result<Report, NoMemory>
+    requires poses { posed.now.problem ≡ problem_of posed.now.tableau }
+    requires acceptable { IsAcceptable posed.now.tableau }
+    ensures report { IfOk result (λ report. IsRankReport posed.now report.text) }
+    ensures status { IfOk result (λ report. report.status ≡ status_by (is_contradicted posed.now.problem)) }
+    ensures written { IfOk result (λ report. IsTrue (is_written report.status)) }
+{
+    let (tableau, problem) = (&posed.tableau, &posed.problem);
+    let terms = winner_terms(alloc, problem)?;
+    let set = conditions_of(alloc, problem, terms.as_slice())?;
+    match least_hierarchy(problem.constraints(), set.as_slice()) {
+        Some(strata) => Ok(Report {
+            text: rank_text(alloc, tableau, problem, &strata, None)?,
+            status: Status::Done,
+        }),
+        None => {
+            let core = core_of(alloc, problem, terms.as_slice())?;
+            Ok(Report {
+                text: contradiction_text(alloc, tableau, problem, "rank", &core)?,
+                status: Status::Contradictory,
+            })
+        }
+    }
 }

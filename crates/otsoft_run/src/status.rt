@@ -8,6 +8,8 @@ ghost use Rattle.otsoft_run.specs.Answers.{code_of};
 pub enum Status {
     /// The report was written whole.
     Done,
+    /// The report was written whole, and it is that no ranking keeps the conditions of the winners.
+    Contradictory,
     /// The words give no settings.
     BadWords,
     /// A file is not accepted.
@@ -21,12 +23,13 @@ pub enum Status {
 }
 
 impl Status {
-    /// The exit status of the program: 0, or 2 to 6 in the order of the faults.
+    /// The exit status of the program, from 0 to 6 in the order of the variants.
     pub fn code(self) -> u8
         ensures { result ≡ code_of self }
     {
         match self {
             Status::Done => 0,
+            Status::Contradictory => 1,
             Status::BadWords => 2,
             Status::Refused => 3,
             Status::ReadFault => 4,

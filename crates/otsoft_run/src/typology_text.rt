@@ -1,18 +1,17 @@
 //! The report of a factorial typology as text.
 
-ghost use Rattle.std.specs.Prelude.{◌≡◌, ◌∷◌, [], ◌++◌, length, codes, decimal, fold, map, max, IfOk, OnOk};
+ghost use Rattle.std.specs.Prelude.{◌≡◌, ◌∷◌, [], ◌++◌, codes, decimal, map, IfOk, OnOk};
 ghost use Rattle.ot_base.specs.Tableaus.{problem_of};
 ghost use Rattle.otsoft_run.specs.Found.{found_of};
 ghost use Rattle.otsoft_run.specs.Reports as reports;
-ghost use Rattle.otsoft_run.specs.Spelling.{line, spaced, stratum, hierarchy, prefix};
+ghost use Rattle.report_text.specs.Spelling.{line, hierarchy, prefix};
 
-use crate::head::put_head;
 use crate::language::Language;
-use crate::problem::Problem;
-use crate::text::Text;
-use erc_vectors::{ConId, NoMemory, Strata};
+use erc_vectors::NoMemory;
 use ot_base::{ClassId, Tableau};
+use report_text::{Text, put_head, put_hierarchy};
 use std::alloc::Global;
+use violation_profiles::Problem;
 
 /// The whole report of the languages that were found, each with its hierarchy.
 pub(crate) fn typology_text(
@@ -65,42 +64,6 @@ fn put_prefix(text: &mut Text, classes: &[ClassId]) -> Result<(), NoMemory>
     }
     for (k, class) in classes.iter().enumerate() {
         text.spaced_number(k == 0, class.0 as usize + 1)?;
-    }
-    Ok(())
-}
-
-/// The strata from the highest on, with a bar between each two.
-fn put_hierarchy(text: &mut Text, strata: &Strata) -> Result<(), NoMemory>
-    ensures { OnOk result (text.new ≡ text.old ++ hierarchy strata.now) }
-{
-    for above in 0..greatest_level(strata) {
-        text.separator(above == 0, b" | ")?;
-        put_stratum(text, strata, above + 1)?;
-    }
-    Ok(())
-}
-
-/// The number of the lowest stratum.
-fn greatest_level(strata: &Strata) -> u8
-    ensures { result ≡ fold max 0 strata.now }
-{
-    let mut greatest = 0;
-    for c in 0..strata.width() {
-        greatest = greatest.max(strata.level(ConId(c as u16)));
-    }
-    greatest
-}
-
-/// The constraints of a stratum, ascending.
-fn put_stratum(text: &mut Text, strata: &Strata, level: u8) -> Result<(), NoMemory>
-    ensures { OnOk result (text.new ≡ text.old ++ spaced (stratum strata.now level)) }
-{
-    let mut first = true;
-    for c in 0..strata.width() {
-        if strata.level(ConId(c as u16)) == level {
-            text.spaced_number(first, c + 1)?;
-            first = false;
-        }
     }
     Ok(())
 }

@@ -12,11 +12,11 @@ use Rattle.std.proofs.lemmas.List.Sums.{sum_by-cons, AllPass-from_list_all}
 use Rattle.ot_base.specs.declared.tableau.Tableau.{Tableau}
 use Rattle.ot_base.specs.declared.tableau.InputRows.{InputRows}
 use Rattle.ot_base.specs.declared.tableau.CandidateRow.{CandidateRow}
-use Rattle.tableau_file.specs.declared.limits.TheConstants.{INPUT_LIMIT, CANDIDATE_LIMIT, ROW_LIMIT, VIOLATION_LIMIT}
+use Rattle.ot_base.specs.declared.limits.TheConstants.{INPUT_LIMIT, CANDIDATE_LIMIT, ROW_LIMIT, VIOLATION_LIMIT}
 use Rattle.tableau_file.specs.declared.Why.TheVariants.{NoInput, TooManyInputs, EmptyCandidate, TooManyCandidates, BadCount, BadViolation, NoRows}
 use Rattle.tableau_file.specs.declared.Why.{Why}
 use Rattle.tableau_file.specs.declared.FileRefusal.{FileRefusal}
-use Rattle.tableau_file.specs.Acceptable.{IsRow, AreRows, IsAcceptable}
+use Rattle.ot_base.specs.Acceptable.{IsRow, AreRows, IsAcceptable}
 use Rattle.tableau_file.specs.Numbers.{is_short_number, value_of, is_violation, is_count}
 use Rattle.tableau_file.specs.Rows.{cell, is_empty, constraint_cells, or_name, abbreviations_of, rows_from, candidate_of, input_begun, continues, with_row, inputs_of, tableau_of}
 use Rattle.tableau_file.specs.Faults.{fault, current, begins_input, candidates_before, all_candidates, input_faults, candidate_faults, number_faults, row_faults, name_faults, abbreviation_faults, refusals_at, rows_refusals, refusals}

@@ -4,7 +4,7 @@ use Rattle.std.specs.Prelude.{◌≡◌, Option, slice_get, ℕ, ◌+◌, ◌-�
 use Rattle.std.specs.List.{list_all, list_any, enumerate_from, range_with_len}
 use Rattle.erc_vectors.specs.declared.condition.TheConstants.{LIMIT}
 use Rattle.ot_base.specs.declared.tableau.InputRows.{InputRows}
-use Rattle.tableau_file.specs.declared.limits.TheConstants.{INPUT_LIMIT, CANDIDATE_LIMIT, ROW_LIMIT}
+use Rattle.ot_base.specs.declared.limits.TheConstants.{INPUT_LIMIT, CANDIDATE_LIMIT, ROW_LIMIT}
 use Rattle.tableau_file.specs.declared.FileRefusal.{FileRefusal}
 use Rattle.tableau_file.specs.declared.Why.{Why}
 use Rattle.tableau_file.specs.declared.Why.TheVariants.{NoConstraints, EmptyName, TooManyConstraints, ExtraCell, NoInput, EmptyCandidate, BadCount, BadViolation, TooManyInputs, TooManyCandidates, NoRows}

@@ -4,7 +4,8 @@ ghost use Rattle.std.specs.Prelude.{◌≡◌, ◌<◌, ◌^◌, ◌*◌, ◌-�
 ghost use Rattle.std.specs.List.{list_all};
 ghost use Rattle.tableau_file.specs.Numbers.{is_digit, is_short_number, value_of, IsNumber, is_violation, pieces, is_count, billionths};
 
-use crate::limits::{BILLION, VIOLATION_LIMIT};
+use crate::limits::BILLION;
+use ot_base::VIOLATION_LIMIT;
 
 /// Whether a text is 1 to 9 digits and nothing else.
 pub(crate) fn is_short_number(text: &[u8]) -> bool

@@ -10,10 +10,9 @@ ghost use Rattle.tableau_file.specs.Faults.{current, begins_input, candidates_be
 
 use crate::Why;
 use crate::cells::{cells_from, has_text, next_text, text_at};
-use crate::limits::{CANDIDATE_LIMIT, INPUT_LIMIT, ROW_LIMIT};
 use crate::numbers::{count_of, violation_of};
 use erc_vectors::{List, NoMemory};
-use ot_base::{CandidateRow, InputRows, Label};
+use ot_base::{CANDIDATE_LIMIT, CandidateRow, INPUT_LIMIT, InputRows, Label, ROW_LIMIT};
 use std::alloc::Global;
 use std::marker::Model;
 use tab_cells::Cells;

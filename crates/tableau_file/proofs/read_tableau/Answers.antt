@@ -2,7 +2,7 @@ use Rattle.std.proofs.Common.{◌≡◌, map, Ok, ap, sym, ◌∙◌, subst}
 use Rattle.std.specs.Result.{IfOk}
 use Rattle.std.proofs.lemmas.Result.{IfOk-weaker}
 use Rattle.tab_cells.specs.Lines.{lines_of}
-use Rattle.tableau_file.specs.Acceptable.{IsAcceptable}
+use Rattle.ot_base.specs.Acceptable.{IsAcceptable}
 use Rattle.tableau_file.specs.Reading.{table_reading}
 use Rattle.tableau_file.specs.Rows.{texts_of}
 use Rattle.tableau_file.proofs.Accepted.{acceptable}

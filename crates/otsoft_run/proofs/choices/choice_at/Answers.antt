@@ -2,7 +2,7 @@ use Rattle.std.proofs.Common.{◌≡◌, ◌+◌, ◌/◌, ◌<◌, drop, arith,
 use Rattle.std.proofs.lemmas.List.{map_push}
 use Rattle.ot_theory.specs.Languages.{choice_count}
 use Rattle.ot_theory.proofs.Digits.{count_left, choice_step, some_left}
-use Rattle.otsoft_run.proofs.Inputs.{EachSome-from_well_formed, IsPrefix-choice_at}
+use Rattle.violation_profiles.proofs.Inputs.{EachSome-from_well_formed, IsPrefix-choice_at}
 use Rattle.otsoft_run.proofs.choices.choice_at.Goals as goal
 use Rattle.otsoft_run.proofs.choices.choice_at.Goals.{After-classes-left}
 

@@ -1,7 +1,7 @@
 use Rattle.std.proofs.Common.{◌*◌, ◌≤◌, arith}
 use Rattle.ot_theory.specs.Languages.{choice_count}
 use Rattle.ot_theory.proofs.Digits.{count_more, count_bound}
-use Rattle.otsoft_run.proofs.Inputs.{EachSome-from_well_formed}
+use Rattle.violation_profiles.proofs.Inputs.{EachSome-from_well_formed}
 use Rattle.otsoft_run.proofs.choices.choice_count_within.Goals as goal
 use Rattle.otsoft_run.proofs.choices.choice_count_within.Goals.{After-classes}
 

@@ -3,7 +3,7 @@ use Rattle.std.proofs.lemmas.List.{map_push}
 use Rattle.ot_theory.specs.Languages.{choice_at}
 use Rattle.ot_theory.proofs.Typologies.{IsTypologyBelow, IsTypologyBelow-refuted, IsTypologyBelow-push, IsTypology-all}
 use Rattle.otsoft_run.specs.Found.{found_of}
-use Rattle.otsoft_run.proofs.Inputs.{EachSome-from_well_formed}
+use Rattle.violation_profiles.proofs.Inputs.{EachSome-from_well_formed}
 use Rattle.otsoft_run.proofs.languages.languages_of.Goals as goal
 use Rattle.otsoft_run.proofs.languages.languages_of.Goals.{in-Some-2+in_ok-push, in_default-2}
 

@@ -1,6 +1,6 @@
 use Rattle.std.proofs.Common.{map, ◌∙◌}
 use Rattle.ot_theory.proofs.Typologies.{refuted-demoted}
-use Rattle.otsoft_run.proofs.Inputs.{AllFit-prefix}
+use Rattle.violation_profiles.proofs.Inputs.{AllFit-prefix}
 use Rattle.otsoft_run.proofs.languages.strata_of.Goals as goal
 
 pub returns : goal.returns

@@ -2,7 +2,7 @@ use Rattle.std.proofs.Common.{◌≡◌, ℕ, List, get_or, map, arith, append_a
 use Rattle.std.proofs.lemmas.List.{length-map, get_or-map}
 use Rattle.otsoft_run.specs.declared.language.Language.{Language}
 use Rattle.otsoft_run.specs.Found.{found_of}
-use Rattle.otsoft_run.proofs.Grown.{numbered_more}
+use Rattle.report_text.proofs.Grown.{numbered_more}
 use Rattle.otsoft_run.proofs.typology_text.put_languages.Invariants.{language_line}
 use Rattle.otsoft_run.proofs.typology_text.put_languages.Goals as goal
 

@@ -2,7 +2,7 @@
 use Rattle.std.proofs.Common.{◌≡◌, ℕ, List, [], ◌∷◌, ◌++◌, take, flat_map, codes, decimal}
 use Rattle.std.specs.List.{enumerate_from}
 use Rattle.otsoft_run.specs.Found.{found_of}
-use Rattle.otsoft_run.specs.Spelling.{line, prefix, hierarchy}
+use Rattle.report_text.specs.Spelling.{line, prefix, hierarchy}
 use Rattle.otsoft_run.proofs.typology_text.put_languages.Given as goal
 
 abbrev pub language_line : ℕ × (List ℕ × List ℕ) → List ℕ

@@ -1,7 +1,7 @@
 use Rattle.std.proofs.Common.{ℕ, ◌+◌, ◌<◌, List, length, map, arith, append_assoc}
 use Rattle.std.proofs.lemmas.List.{length-map, get_or-map}
 use Rattle.ot_base.specs.declared.tableau.ClassId.{ClassId}
-use Rattle.otsoft_run.proofs.Spaced.{spaced_more}
+use Rattle.report_text.proofs.Spaced.{spaced_more}
 use Rattle.otsoft_run.proofs.typology_text.put_prefix.Goals as goal
 
 pub loop-k-preserved : goal.loop-k-preserved

@@ -1,6 +1,6 @@
 -- the first k class numbers are written
 use Rattle.std.proofs.Common.{◌≡◌, ◌+◌, ◌++◌, take, map}
-use Rattle.otsoft_run.specs.Spelling.{spaced}
+use Rattle.report_text.specs.Spelling.{spaced}
 use Rattle.otsoft_run.proofs.typology_text.put_prefix.Given as goal
 
 abbrev pub invariant-loop-k : goal.invariant-loop-k

@@ -1,0 +1,2 @@
+pub mod Stratum
+pub mod Opened

@@ -1,0 +1,5 @@
+use Rattle.ot_theory.proofs.Placing.{ArePlaced}
+use Rattle.demotion.proofs.rounds.place_free.Given as goal
+
+abbrev pub invariant-loop-k : goal.invariant-loop-k
+invariant-loop-k l = ArePlaced l.blocked l.given l.initial.levels l.k l.placed l.levels

@@ -1,0 +1,12 @@
+//! The fusion of conditions, and whether a condition is a contradiction.
+//!
+//! Fusion is that of Prince (Entailed Ranking Arguments, 2002): of the marks of a constraint L is stronger than W, and W
+//! than e. No ranking keeps a set of conditions exactly where the fusion of some part of it has an L and no W, here called
+//! a contradiction. Both are answered in fixed memory.
+#![tactic(auto)]
+
+mod fusion;
+#[cfg(test)]
+mod tests;
+
+pub use fusion::{fuse, is_contradiction};

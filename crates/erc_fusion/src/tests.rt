@@ -1,0 +1,68 @@
+ghost use Rattle.std.specs.Prelude.{◌≡◌, ◌<◌, length, All};
+
+use crate::{fuse, is_contradiction};
+use Mark::{E, L, W};
+use erc_vectors::{ConId, Condition, Mark};
+use std::process::Abort;
+
+fn condition(rt: &impl Abort, marks: [Mark; 3]) -> Condition
+    ensures { length result ≡ 3 }
+{
+    Condition::of(&marks).expect(rt, "three marks")
+}
+
+fn marks_of(c: &Condition) -> [Mark; 3]
+    requires { length c.now ≡ 3 }
+{
+    [c.mark(ConId(0)), c.mark(ConId(1)), c.mark(ConId(2))]
+}
+
+#[test]
+fn the_stronger_mark_stays(rt: HostRuntime) {
+    for (first, second, fused) in [
+        ([W, L, E], [W, L, E], [W, L, E]),
+        ([W, W, E], [L, E, E], [L, W, E]),
+        ([E, L, W], [E, W, L], [E, L, L]),
+        ([W, E, L], [E, W, W], [W, W, L]),
+    ] {
+        let set = [condition(&rt, first), condition(&rt, second)];
+        assert_eq!(rt; marks_of(&fuse(&set)), fused);
+        assert_eq!(rt; marks_of(&fuse(&set[..1])), first);
+    }
+}
+
+/// 1,001 times the one condition, but the other in one place.
+fn all_but_one(most: Condition, one: Condition, place: usize) -> [Condition; 1001]
+    requires within { place < 1001 }
+    requires most_width { length most ≡ 3 }
+    requires one_width { length one ≡ 3 }
+    ensures { All (λ marks. length marks ≡ 3) result }
+{
+    let mut set = [most; 1001];
+    set[place] = one;
+    set
+}
+
+#[test]
+fn one_loss_among_many_wins_stays(rt: HostRuntime) {
+    let wins = condition(&rt, [W, E, E]);
+    let loss = condition(&rt, [L, E, E]);
+    for (place, fused) in [(0, [L, E, E]), (500, [L, E, E]), (1000, [L, E, E])] {
+        let set = all_but_one(wins, loss, place);
+        assert_eq!(rt; marks_of(&fuse(&set)), fused);
+    }
+}
+
+#[test]
+fn a_contradiction_has_a_loss_and_no_win(rt: HostRuntime) {
+    for (marks, holds) in [
+        ([L, L, E], true),
+        ([W, L, E], false),
+        ([L, E, W], false),
+        ([W, E, E], false),
+        ([E, E, E], false),
+        ([E, E, L], true),
+    ] {
+        assert_eq!(rt; is_contradiction(&condition(&rt, marks)), holds);
+    }
+}

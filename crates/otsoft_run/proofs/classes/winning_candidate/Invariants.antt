@@ -1,6 +1,0 @@
-use Rattle.std.proofs.Common.{map}
-use Rattle.ot_theory.proofs.Candidates.{Wins}
-use Rattle.otsoft_run.proofs.classes.winning_candidate.Given as goal
-
-abbrev pub invariant-loop-k : goal.invariant-loop-k
-invariant-loop-k l = Wins (map (λ row. row.count) l.candidates) l.k l.winner l.greatest

@@ -1,5 +1,0 @@
-use Rattle.ot_theory.proofs.Placing.{ArePlaced}
-use Rattle.otsoft_run.proofs.demotion.place_free.Given as goal
-
-abbrev pub invariant-loop-k : goal.invariant-loop-k
-invariant-loop-k l = ArePlaced l.blocked l.given l.initial.levels l.k l.placed l.levels

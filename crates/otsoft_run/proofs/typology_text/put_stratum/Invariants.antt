@@ -1,6 +1,0 @@
--- the first constraints of the stratum are written
-use Rattle.otsoft_run.proofs.Spaced.{IsStratumBelow}
-use Rattle.otsoft_run.proofs.typology_text.put_stratum.Given as goal
-
-abbrev pub invariant-loop-c : goal.invariant-loop-c
-invariant-loop-c l = IsStratumBelow l.strata l.level l.c l.first l.initial.text l.text

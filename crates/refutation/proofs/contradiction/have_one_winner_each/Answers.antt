@@ -1,0 +1,20 @@
+-- The winners so far tell whether a term has the winner of its input.
+use Rattle.std.proofs.Common.{◌∙◌, arith, refl}
+use Rattle.refutation.proofs.SoFar.{more-winners, no-winners, one-winner, two-winners}
+use Rattle.refutation.proofs.contradiction.have_one_winner_each.Goals as goal
+
+pub returns-then-not-agrees : goal.returns-then-not-agrees
+returns-then-not-agrees c =
+    two-winners c.args.p.now c.args.terms.now c.loop-term.term-index _ c.loop-term.winners c.agrees.result c.requires
+    (omega (arith, c.inputs.ensures.value, c.inputs.ensures.small, c.loop-term.invariant.places)) c.loop-term-test.true c.loop-term.invariant.seen c.agrees.ensures.agrees c.if-not-agrees.true
+
+pub loop-term-preserved : goal.loop-term-preserved
+loop-term-preserved c = record {
+  places = c.agrees.ensures.length ∙ c.loop-term.invariant.places;
+  seen = more-winners c.args.terms.now c.loop-term.term-index _ c.loop-term.winners c.agrees.new.winners c.loop-term-test.true c.loop-term.invariant.seen c.agrees.ensures.length c.agrees.ensures.chosen c.agrees.ensures.others;
+  one = one-winner c.args.p.now c.args.terms.now c.loop-term.term-index _ c.loop-term.winners c.agrees.result c.requires
+      (omega (arith, c.inputs.ensures.value, c.inputs.ensures.small, c.loop-term.invariant.places)) c.loop-term-test.true c.loop-term.invariant.seen c.loop-term.invariant.one c.agrees.ensures.agrees c.if-not-agrees.false;
+}
+
+pub loop-term-init : goal.loop-term-init
+loop-term-init c = record { places = c.no_winners-winners.ensures.length; seen = no-winners c.no_winners-winners.result c.no_winners-winners.ensures.none; one = refl }

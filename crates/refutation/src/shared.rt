@@ -1,0 +1,15 @@
+//! Which types may go to another thread: each call below is refused if its type may not.
+
+use crate::{Contradiction, Term};
+
+fn goes<T: Send>(_value: &T) {}
+
+fn is_shared<T: Sync>(_value: &T) {}
+
+/// A term and a contradiction may go to another thread, and threads may share them.
+pub fn contradictions_go(term: &Term, contradiction: &Contradiction) {
+    goes(term);
+    goes(contradiction);
+    is_shared(term);
+    is_shared(contradiction);
+}

@@ -1,0 +1,193 @@
+ghost use Rattle.std.specs.Prelude.{◌≡◌, length, IfOk, IsTrue};
+ghost use Rattle.ot_base.specs.Acceptable.{IsRow, AreRows, IsAcceptable};
+
+use crate::certificate::is_hopeless;
+use crate::{Contradiction, Term, condition_of, conditions_of, core_of, is_genuine, winner_terms};
+use erc_vectors::{ConId, List, NoMemory};
+use ot_base::{CandidateRow, ClassId, InId, InputRows, Label, Tableau};
+use std::alloc::Global;
+use std::process::Abort;
+use std::test::Fail;
+use violation_profiles::Problem;
+
+/// A candidate's count and its violations of three constraints.
+type Row = (u64, [u8; 3]);
+
+/// The candidates of two inputs.
+type Rows = [[Row; 3]; 2];
+
+/// A stop after a vowel: kept, dropped, or made an onset.
+fn stops(first: [u64; 3], second: [u64; 3]) -> Rows {
+    [first, second].map(|counts| {
+        [
+            (counts[0], [1, 0, 0]),
+            (counts[1], [0, 1, 0]),
+            (counts[2], [0, 0, 1]),
+        ]
+    })
+}
+
+/// Two inputs of two classes each, of which the second has two candidates.
+const PAIRS: Rows = [
+    [(1, [0, 1, 0]), (0, [1, 0, 0]), (0, [1, 0, 0])],
+    [(1, [0, 0, 1]), (0, [0, 1, 0]), (0, [0, 1, 0])],
+];
+
+/// An input with a compromise between two classes, and one of a single class.
+const COMPROMISE: Rows = [
+    [(0, [2, 0, 0]), (0, [0, 2, 0]), (1, [1, 1, 0])],
+    [(1, [0, 0, 0]), (1, [0, 0, 0]), (1, [0, 0, 0])],
+];
+
+fn row(alloc: Global, count: u64, marks: &[u8; 3]) -> Result<CandidateRow, NoMemory>
+    ensures { IfOk result (λ row. IsRow 3 row) }
+{
+    let mut violations = List::new(alloc);
+    for violation in marks {
+        violations.push(u32::from(*violation))?;
+    }
+    Ok(CandidateRow {
+        text: Label::of(alloc, b"")?,
+        count,
+        violations,
+        line: 3,
+    })
+}
+
+fn input(alloc: Global, rows: &[Row; 3]) -> Result<InputRows, NoMemory>
+    ensures { IfOk result (λ input. AreRows 3 input) }
+{
+    let mut candidates = List::new(alloc);
+    for (count, marks) in rows {
+        candidates.push(row(alloc, *count, marks)?)?;
+    }
+    Ok(InputRows {
+        text: Label::of(alloc, b"")?,
+        candidates,
+    })
+}
+
+fn names(alloc: Global) -> Result<List<Label>, NoMemory>
+    ensures { IfOk result (λ names. length names ≡ 3) }
+{
+    let mut names = List::new(alloc);
+    for _ in 0..3_usize {
+        names.push(Label::of(alloc, b"")?)?;
+    }
+    Ok(names)
+}
+
+fn problem(alloc: Global, rows: &Rows) -> Result<Problem, NoMemory> {
+    let mut inputs = List::new(alloc);
+    inputs.push(input(alloc, &rows[0])?)?;
+    inputs.push(input(alloc, &rows[1])?)?;
+    let tableau = Tableau {
+        names: names(alloc)?,
+        abbrevs: names(alloc)?,
+        inputs,
+    };
+    Problem::of(alloc, &tableau)
+}
+
+/// The terms with their numbers counted from 1.
+fn shown(alloc: Global, terms: &[Term]) -> Result<String, Fail> {
+    let mut text = String::new(alloc);
+    for term in terms {
+        let i = term.input.0.saturating_add(1);
+        let a = term.winner.0.saturating_add(1);
+        let b = term.loser.0.saturating_add(1);
+        write!(text, "{i}:{a}>{b} ")?;
+    }
+    Ok(text)
+}
+
+/// A contradiction of terms whose numbers are counted from 0.
+fn contradiction(alloc: Global, terms: &[(u32, u16, u16)]) -> Result<Contradiction, NoMemory> {
+    let mut list = List::new(alloc);
+    for (input, winner, loser) in terms {
+        list.push(Term {
+            input: InId(*input),
+            winner: ClassId(*winner),
+            loser: ClassId(*loser),
+        })?;
+    }
+    Ok(Contradiction { terms: list })
+}
+
+/// The terms of the winners of these rows.
+fn winners(alloc: Global, rows: &Rows) -> Result<String, Fail> {
+    let problem = problem(alloc, rows)?;
+    let terms = winner_terms(alloc, &problem)?;
+    shown(alloc, terms.as_slice())
+}
+
+#[test]
+fn winners_stand_against_all_other_classes(rt: HostRuntime) -> Result<(), Fail> {
+    let text = winners(rt.alloc(), &stops([1, 0, 0], [0, 1, 0]))?;
+    assert_eq!(rt; text.as_str(), "1:1>2 1:1>3 2:2>1 2:2>3 ");
+    let text = winners(rt.alloc(), &stops([0, 0, 0], [0, 0, 4]))?;
+    assert_eq!(rt; text.as_str(), "2:3>1 2:3>2 ");
+    let text = winners(rt.alloc(), &PAIRS)?;
+    assert_eq!(rt; text.as_str(), "1:1>2 2:1>2 ");
+    Ok(())
+}
+
+/// The certificate of the winners of these rows, which no ranking makes optimal.
+fn certificate(rt: &impl Abort, alloc: Global, rows: &Rows) -> Result<String, Fail> {
+    let problem = problem(alloc, rows)?;
+    let terms = winner_terms(alloc, &problem)?;
+    let conditions = conditions_of(alloc, &problem, terms.as_slice())?;
+    assert!(rt; is_hopeless(problem.constraints(), &conditions));
+    let core = core_of(alloc, &problem, terms.as_slice())?;
+    assert!(rt; is_genuine(&problem, &core));
+    let copy = core.copy(alloc)?;
+    shown(alloc, copy.terms.as_slice())
+}
+
+#[test]
+fn certificates_of_winners(rt: HostRuntime) -> Result<(), Fail> {
+    let text = certificate(&rt, rt.alloc(), &stops([1, 0, 0], [0, 1, 0]))?;
+    assert_eq!(rt; text.as_str(), "1:1>2 2:2>1 ");
+    let text = certificate(&rt, rt.alloc(), &stops([0, 1, 0], [0, 0, 1]))?;
+    assert_eq!(rt; text.as_str(), "1:2>3 2:3>2 ");
+    let text = certificate(&rt, rt.alloc(), &COMPROMISE)?;
+    assert_eq!(rt; text.as_str(), "1:3>1 1:3>2 ");
+    Ok(())
+}
+
+#[test]
+fn genuine_contradictions(rt: HostRuntime) -> Result<(), Fail> {
+    let problem = problem(rt.alloc(), &stops([0, 0, 0], [0, 0, 0]))?;
+    let cases: [(&[(u32, u16, u16)], bool); 8] = [
+        (&[(0, 0, 1), (1, 1, 0)], true),
+        (&[(1, 1, 0), (0, 0, 1), (1, 1, 0)], true),
+        (&[(0, 0, 1)], false),
+        (&[], false),
+        (&[(0, 0, 1), (0, 1, 0)], false),
+        (&[(0, 0, 1), (1, 1, 0), (2, 0, 1)], false),
+        (&[(0, 0, 1), (1, 1, 0), (1, 1, 3)], false),
+        (&[(0, 0, 1), (1, 1, 0), (1, 1, 1)], false),
+    ];
+    for (terms, want) in cases {
+        let contradiction = contradiction(rt.alloc(), terms)?;
+        assert_eq!(rt; is_genuine(&problem, &contradiction), want);
+    }
+    Ok(())
+}
+
+#[test]
+fn condition_of_a_term(rt: HostRuntime) -> Result<(), Fail> {
+    let problem = problem(rt.alloc(), &PAIRS)?;
+    let terms = winner_terms(rt.alloc(), &problem)?;
+    let mut text = String::new(rt.alloc());
+    for term in terms.as_slice() {
+        let condition = condition_of(&problem, term);
+        for c in 0..condition.width() {
+            let mark = condition.mark(ConId(c as u16));
+            write!(text, "{mark:?}")?;
+        }
+        text.push(' ')?;
+    }
+    assert_eq!(rt; text.as_str(), "WLE EWL ");
+    Ok(())
+}

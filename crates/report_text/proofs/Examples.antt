@@ -1,0 +1,61 @@
+-- Worked reports: the definitions computed on small tableaux.
+use Rattle.std.proofs.Common.{◌≡◌, ℕ, List, [], ◌∷◌, refl}
+use Rattle.std.specs.Prelude.{codes, Some, None}
+use Rattle.std.specs.Fmt.{digits}
+use Rattle.ot_base.specs.declared.tableau.CandidateRow.{CandidateRow}
+use Rattle.ot_base.specs.declared.tableau.InputRows.{InputRows}
+use Rattle.ot_base.specs.declared.tableau.Tableau.{Tableau}
+use Rattle.ot_base.specs.Tableaus.{problem_of}
+use Rattle.ot_theory.specs.Languages.{Term}
+use Rattle.report_text.specs.Reports.{head, rank_report, contradiction_report}
+
+abbrev candidate : List ℕ → ℕ → List ℕ → CandidateRow
+candidate text count violations = record { text = text; count = count; violations = violations; line = 3 }
+
+abbrev named : List (List ℕ) → List InputRows → Tableau
+named names inputs = record { names = names; abbrevs = names; inputs = inputs }
+
+-- each constraint decides for one input
+abbrev chain : Tableau
+chain = named (codes "A" ∷ codes "B" ∷ codes "C" ∷ [])
+    (record { text = codes "x"; candidates = candidate (codes "p") 1000000000 (0 ∷ 1 ∷ 0 ∷ []) ∷ candidate (codes "q") 0 (1 ∷ 0 ∷ 0 ∷ []) ∷ [] }
+    ∷ record { text = codes "y"; candidates = candidate (codes "r") 1000000000 (0 ∷ 0 ∷ 1 ∷ []) ∷ candidate (codes "s") 0 (0 ∷ 1 ∷ 0 ∷ []) ∷ [] } ∷ [])
+
+pub rank_of_chain : rank_report chain (problem_of chain) (1 ∷ 2 ∷ 3 ∷ []) None ≡ codes "otsoft report 1\trank\nconstraints\t3\nconstraint\t1\tA\tA\nconstraint\t2\tB\tB\nconstraint\t3\tC\tC\ninputs\t2\ninput\t1\tx\t2\nclass\t1.1\t0 1 0\tp\nclass\t1.2\t1 0 0\tq\ninput\t2\ty\t2\nclass\t2.1\t0 0 1\tr\nclass\t2.2\t0 1 0\ts\nwinner\t1\t1\nwinner\t2\t1\nstrata\t3\nstratum\t1\t1\tA\nstratum\t2\t2\tB\nstratum\t3\t3\tC\ntableau\t1\tx\norder\t1\t2\t3\nrow\t1\t>\t0\t1\t0\nrow\t2\t-\t1!\t0\t0\ntableau\t2\ty\norder\t1\t2\t3\nrow\t1\t>\t0\t0\t1\nrow\t2\t-\t0\t1!\t0\nend\n"
+unfolding rank_report head digits
+rank_of_chain = refl
+
+-- one candidate, and abbreviations that are shorter than the names
+abbrev alone : Tableau
+alone = record {
+  names = codes "NoCoda" ∷ codes "Max" ∷ codes "Dep" ∷ [];
+  abbrevs = codes "NC" ∷ codes "Mx" ∷ codes "Dp" ∷ [];
+  inputs = record { text = codes "x"; candidates = candidate (codes "x") 1000000000 (0 ∷ 0 ∷ 0 ∷ []) ∷ [] } ∷ [];
+}
+
+pub rank_of_alone : rank_report alone (problem_of alone) (1 ∷ 2 ∷ 2 ∷ []) (Some 2) ≡ codes "otsoft report 1\trank\nconstraints\t3\nconstraint\t1\tNC\tNoCoda\nconstraint\t2\tMx\tMax\nconstraint\t3\tDp\tDep\ninputs\t1\ninput\t1\tx\t1\nclass\t1.1\t0 0 0\tx\nwinner\t1\t1\nstrata\t2\nstratum\t1\t1\tNC\nstratum\t2\t2 3\tMx\tDp\nrmeasure\t2\ntableau\t1\tx\norder\t1\t2\t3\nrow\t1\t>\t0\t0\t0\nend\n"
+unfolding rank_report head digits
+rank_of_alone = refl
+
+-- two counts alike, and an input without counts
+abbrev uncounted : Tableau
+uncounted = named (codes "A" ∷ codes "B" ∷ [])
+    (record { text = codes "x"; candidates = candidate (codes "p") 500000000 (1 ∷ 0 ∷ []) ∷ candidate (codes "q") 500000000 (0 ∷ 1 ∷ []) ∷ [] }
+    ∷ record { text = codes "y"; candidates = candidate (codes "r") 0 (0 ∷ 0 ∷ []) ∷ candidate (codes "s") 0 (0 ∷ 0 ∷ []) ∷ [] } ∷ [])
+
+pub rank_of_uncounted : rank_report uncounted (problem_of uncounted) (2 ∷ 1 ∷ []) None ≡ codes "otsoft report 1\trank\nconstraints\t2\nconstraint\t1\tA\tA\nconstraint\t2\tB\tB\ninputs\t2\ninput\t1\tx\t2\nclass\t1.1\t1 0\tp\nclass\t1.2\t0 1\tq\ninput\t2\ty\t1\nclass\t2.1\t0 0\tr\ts\nwinner\t1\t1\nwinner\t2\tnone\nstrata\t2\nstratum\t1\t2\tB\nstratum\t2\t1\tA\ntableau\t1\tx\norder\t2\t1\nrow\t1\t>\t0\t1\nrow\t2\t-\t1!\t0\nend\n"
+unfolding rank_report head digits
+rank_of_uncounted = refl
+
+-- two inputs that would be repaired in different ways
+abbrev codas : Tableau
+codas = named (codes "NoCoda" ∷ codes "Max" ∷ codes "Dep" ∷ [])
+    (record { text = codes "pat"; candidates = candidate (codes "pat") 1000000000 (1 ∷ 0 ∷ 0 ∷ []) ∷ candidate (codes "pa") 0 (0 ∷ 1 ∷ 0 ∷ []) ∷ candidate (codes "pa.ti") 0 (0 ∷ 0 ∷ 1 ∷ []) ∷ [] }
+    ∷ record { text = codes "tak"; candidates = candidate (codes "tak") 0 (1 ∷ 0 ∷ 0 ∷ []) ∷ candidate (codes "ta") 1000000000 (0 ∷ 1 ∷ 0 ∷ []) ∷ candidate (codes "ta.ki") 0 (0 ∷ 0 ∷ 1 ∷ []) ∷ [] } ∷ [])
+
+abbrev against : ℕ → ℕ → ℕ → Term
+against i a b = record { input = i; winner = a; loser = b }
+
+pub contradiction_of_codas : contradiction_report (codes "rank") codas (problem_of codas) (against 0 0 1 ∷ against 1 1 0 ∷ []) ≡ codes "otsoft report 1\trank\nconstraints\t3\nconstraint\t1\tNoCoda\tNoCoda\nconstraint\t2\tMax\tMax\nconstraint\t3\tDep\tDep\ninputs\t2\ninput\t1\tpat\t3\nclass\t1.1\t1 0 0\tpat\nclass\t1.2\t0 1 0\tpa\nclass\t1.3\t0 0 1\tpa.ti\ninput\t2\ttak\t3\nclass\t2.1\t1 0 0\ttak\nclass\t2.2\t0 1 0\tta\nclass\t2.3\t0 0 1\tta.ki\nwinner\t1\t1\nwinner\t2\t2\ncontradiction\tLLe\t1:1>2 2:2>1\nend\n"
+unfolding contradiction_report head digits
+contradiction_of_codas = refl

@@ -1,0 +1,5 @@
+pub mod Examples
+pub mod Genuine
+pub mod Grown
+pub mod Posed
+pub mod Spaced

@@ -1,0 +1,102 @@
+-- Lists with something between each two items, one more item at a time.
+use Rattle.std.proofs.Common.{◌≡◌, ℕ, zero, suc, ◌+◌, ◌<◌, List, [], ◌∷◌, ◌++◌, length, get_or, take, map, Bool, true, false, cond, eqb, ◌==◌, slice_index, filter, decimal, flat_map, arith, refl, sym, ap, append_assoc}
+use Rattle.std.specs.List.{join_with_byte, join_by, range_with_len}
+use Rattle.std.proofs.lemmas.List.{map_push, map-id, append-nil, take_more}
+use Rattle.std.proofs.lemmas.List.FromFn.{map-range_with_len_more, filter_of_map_range_with_len_more}
+use Rattle.std.proofs.lemmas.Bool.{ne_eqb}
+use Rattle.std.proofs.lemmas.List.Concat.{flat_map-append}
+use Rattle.ot_theory.specs.Rankings.{numbers_below}
+use Rattle.report_text.specs.Spelling.{spaced}
+
+-- each item but the first has the byte before it
+pub join-cons : (c : ℕ) (x : List ℕ) (xs : List (List ℕ)) → join_with_byte c (x ∷ xs) ≡ x ++ flat_map (λ y. c ∷ y) xs
+join-cons c x [] = sym (append-nil x)
+join-cons c x (y ∷ xs) = ap (λ (rest : List ℕ). x ++ (c ∷ rest)) (join-cons c y xs)
+
+-- whether nothing comes before
+abbrev pub is_first : {X : Type 0} → List X → Bool
+is_first [] = true
+is_first (x ∷ xs) = false
+
+joined-push : {X : Type 0} (c : ℕ) (f : X → List ℕ) (xs : List X) (x : X) → join_with_byte c (map f (xs ++ x ∷ [])) ≡ join_with_byte c (map f xs) ++ (cond (is_first xs) [] (c ∷ []) ++ f x)
+joined-push c f [] x = refl
+joined-push c f (y ∷ xs) x =
+    let one : flat_map (λ z. c ∷ z) (map f (xs ++ x ∷ [])) ≡ flat_map (λ z. c ∷ z) (map f xs) ++ (c ∷ f x) =
+    rw (map_push f xs x, flat_map-append, append-nil) refl
+    in
+    rw (join-cons c (f y) (map f (xs ++ x ∷ [])), join-cons c (f y) (map f xs), one) (sym (append_assoc (f y) _ _))
+
+spaced-push : (numbers : List ℕ) (n : ℕ) → spaced (numbers ++ n ∷ []) ≡ spaced numbers ++ (cond (is_first numbers) [] (32 ∷ []) ++ decimal n)
+spaced-push numbers n = joined-push 32 decimal numbers n
+
+first_at : {X : Type 0} (xs : List X) (k : ℕ) → k < length xs → is_first (take k xs) ≡ eqb k 0
+first_at xs zero below = refl
+first_at [] (suc k) below = absurd (omega arith)
+first_at (x ∷ xs) (suc k) below = sym (ne_eqb (suc k) 0 (λ e. omega arith))
+
+-- the first k + 1 items, with a byte between each two
+pub joined_more : {X : Type 0} (c : ℕ) (f : X → List ℕ) (xs : List X) (k : ℕ) (d : X) → k < length xs → join_with_byte c (map f (take (k + 1) xs)) ≡ join_with_byte c (map f (take k xs)) ++ (cond (eqb k 0) [] (c ∷ []) ++ f (get_or xs k d))
+joined_more c f xs k d below =
+    rw (take_more xs k d below, joined-push c f (take k xs) (get_or xs k d), first_at xs k below) refl
+
+pub spaced_more : (numbers : List ℕ) (k : ℕ) → k < length numbers → spaced (take (k + 1) numbers) ≡ spaced (take k numbers) ++ (cond (eqb k 0) [] (32 ∷ []) ++ decimal (get_or numbers k 0))
+spaced_more numbers k below = joined_more 32 decimal numbers k 0 below
+
+join_by-push : {X : Type 0} (f : X → List ℕ) (separator : List ℕ) (xs : List X) (x : X) → join_by f separator (xs ++ x ∷ []) ≡ join_by f separator xs ++ (cond (is_first xs) [] separator ++ f x)
+join_by-push f separator [] x = append-nil (f x)
+join_by-push f separator (y ∷ xs) x =
+    rw (flat_map-append (λ z. separator ++ f z) xs (x ∷ []), append-nil (separator ++ f x)) (sym (append_assoc (f y) (flat_map (λ z. separator ++ f z) xs) (separator ++ f x)))
+
+range-push : (a n : ℕ) → range_with_len a (n + 1) ≡ range_with_len a n ++ (a + n) ∷ []
+range-push a n = simp map-id at (map-range_with_len_more (λ (x : ℕ). x) a n (a + n) refl)
+
+first_in_range : (a n : ℕ) → is_first (range_with_len a n) ≡ eqb n 0
+first_in_range a zero = refl
+first_in_range a (suc n) = sym (ne_eqb (suc n) 0 (λ e. omega arith))
+
+-- the strata from 1 on, one more stratum at a time
+pub strata_more : (f : ℕ → List ℕ) (separator : List ℕ) (n : ℕ) → join_by f separator (range_with_len 1 (n + 1)) ≡ join_by f separator (range_with_len 1 n) ++ (cond (eqb n 0) [] separator ++ f (n + 1))
+strata_more f separator n =
+    let next : 1 + n ≡ n + 1 = omega arith in
+    rw (range-push 1 n, join_by-push f separator (range_with_len 1 n) (1 + n), first_in_range 1 n, next) refl
+
+-- the lines of the strata from 1 on, one more stratum at a time
+pub range_lines_more : (f : ℕ → List ℕ) (n : ℕ) → flat_map f (range_with_len 1 (n + 1)) ≡ flat_map f (range_with_len 1 n) ++ f (n + 1)
+range_lines_more f n =
+    let next : 1 + n ≡ n + 1 = omega arith in
+    rw (range-push 1 n, flat_map-append f (range_with_len 1 n) ((1 + n) ∷ []), append-nil (f (1 + n)), next) refl
+
+-- the constraints of a stratum among the first c
+abbrev pub stratum_below : List ℕ → ℕ → ℕ → List ℕ
+stratum_below levels s c = filter (λ d. slice_index levels d == s) (numbers_below c)
+
+pub stratum_below-push : (levels : List ℕ) (s c : ℕ) → stratum_below levels s (c + 1) ≡ stratum_below levels s c ++ cond (eqb (get_or levels c 0) s) (c ∷ []) []
+stratum_below-push levels s c =
+    simp map-id at (filter_of_map_range_with_len_more (λ (d : ℕ). slice_index levels d == s) (λ (d : ℕ). d) 0 c c (omega arith))
+
+-- They are written, and whether there are none of them is known.
+pub record IsStratumBelow (levels : List ℕ) (s c : ℕ) (first : Bool) (old new : List ℕ) : Type 0 where
+  pub text : new ≡ old ++ spaced (map (λ d. d + 1) (stratum_below levels s c))
+  pub none : first ≡ is_first (stratum_below levels s c)
+
+first-push : (xs : List ℕ) (x : ℕ) → is_first (xs ++ x ∷ []) ≡ false
+first-push [] x = refl
+first-push (y ∷ xs) x = refl
+
+first-map : (xs : List ℕ) (f : ℕ → ℕ) → is_first (map f xs) ≡ is_first xs
+first-map [] f = refl
+first-map (x ∷ xs) f = refl
+
+pub IsStratumBelow-in : (levels : List ℕ) (s c : ℕ) (first : Bool) (old new next : List ℕ) → eqb (get_or levels c 0) s ≡ true → next ≡ new ++ (cond first [] (32 ∷ []) ++ decimal (c + 1)) → IsStratumBelow levels s c first old new → IsStratumBelow levels s (c + 1) false old next
+IsStratumBelow-in levels s c first old new next here step below =
+    let more : stratum_below levels s (c + 1) ≡ stratum_below levels s c ++ c ∷ [] = rw here at (stratum_below-push levels s c) in
+    let front : List ℕ = map (λ d. d + 1) (stratum_below levels s c) in
+    record {
+      text = rw (more, map_push (λ d. d + 1) (stratum_below levels s c) c, spaced-push front (c + 1), first-map (stratum_below levels s c) (λ d. d + 1), step, below.text, below.none) (simp append_assoc);
+      none = rw (more, first-push (stratum_below levels s c) c) refl;
+    }
+
+pub IsStratumBelow-out : (levels : List ℕ) (s c : ℕ) (first : Bool) (old new : List ℕ) → eqb (get_or levels c 0) s ≡ false → IsStratumBelow levels s c first old new → IsStratumBelow levels s (c + 1) first old new
+IsStratumBelow-out levels s c first old new other below =
+    let same : stratum_below levels s (c + 1) ≡ stratum_below levels s c = rw (other, append-nil) at (stratum_below-push levels s c) in
+    record { text = rw same below.text; none = rw same below.none }

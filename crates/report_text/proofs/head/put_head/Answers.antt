@@ -1,0 +1,39 @@
+use Rattle.std.proofs.Common.{◌≡◌, ℕ, ◌<◌, List, [], ◌∷◌, ◌++◌, length, codes, decimal, flat_map, arith, append_assoc, refl, sym, take_all, Some, ap}
+use Rattle.std.specs.List.{slice_get, zip, enumerate_from}
+use Rattle.std.proofs.lemmas.Option.{slice_get_read, get_or_from_slice_get}
+use Rattle.std.proofs.lemmas.Slice.Zip.{length-zip}
+use Rattle.ot_base.specs.Tableaus.{input_of_rows}
+use Rattle.report_text.specs.Reports.{head, title, constraint_lines}
+use Rattle.report_text.specs.Spelling.{line}
+use Rattle.report_text.proofs.Grown.{numbered_pairs_more}
+use Rattle.report_text.proofs.Posed.{input_at, inputs-length}
+use Rattle.report_text.proofs.head.put_head.Invariants.{input_lines}
+use Rattle.report_text.proofs.head.put_head.Goals as goal
+
+pub loop-i-preserved : goal.loop-i-preserved
+loop-i-preserved c =
+    let t = c.args.tableau.now in
+    let rows = c.rows-item.result in
+    let here = rw c.as_slice-rows-items.ensures at c.rows-item.is in
+    let within : c.loop-i.i < length t.inputs = omega (arith, ap length c.as_slice-rows-items.ensures) in
+    let long : length c.args.problem.now.inputs ≡ length t.inputs = rw c.requires (inputs-length t) in
+    let there : slice_get c.args.problem.now.inputs c.loop-i.i ≡ Some (input_of_rows rows) =
+    rw c.requires (input_at t c.loop-i.i rows (slice_get_read t.inputs (length t.inputs) c.loop-i.i rows refl within here))
+    in
+    let e = numbered_pairs_more input_lines t.inputs c.args.problem.now.inputs c.loop-i.i rows (input_of_rows rows)
+    within (omega arith) here (sym (get_or_from_slice_get c.args.problem.now.inputs c.loop-i.i (input_of_rows rows) (input_of_rows rows) there))
+    in
+    rw (e, c.in_ok-put_input.ensures (input_of_rows rows) there, c.loop-i.invariant) (simp append_assoc)
+
+appended : (text title constraints count inputs : List ℕ) → text ++ title ++ constraints ++ count ++ inputs ≡ text ++ (title ++ constraints ++ count ++ inputs)
+appended text title constraints count inputs = simp append_assoc
+
+pub returns : goal.returns
+unfolding head
+returns c =
+    let t = c.args.tableau.now in
+    let inputs = zip t.inputs c.args.problem.now.inputs in
+    let long : length c.args.problem.now.inputs ≡ length t.inputs = rw c.requires (inputs-length t) in
+    let all = take_all c.loop-i.i inputs (omega (arith, length-zip t.inputs c.args.problem.now.inputs, ap length c.as_slice-rows-items.ensures)) in
+    rw (c.loop-i.invariant, all, c.in_ok-count_line.ensures, c.inputs.ensures.value, long, c.in_ok-put_constraints.ensures, c.in_ok-put_title.ensures)
+    (appended c.args.text.now (title c.args.command.now) (constraint_lines t) (line (codes "inputs" ∷ decimal (length t.inputs) ∷ [])) (flat_map input_lines (enumerate_from 1 inputs)))

@@ -1,0 +1,116 @@
+-- The texts of reports: what every report begins with, and the reports of one ranking of the winners.
+use Rattle.std.specs.Prelude.{ℕ, ◌+◌, Bool, true, false, not, List, [], ◌∷◌, ◌++◌, map, length, slice_index, slice_index_or, decimal, codes, flat_map, filter, find, ◌==◌, Option, Some, None, if◌then◌else◌}
+use Rattle.std.specs.List.{enumerate_from, zip, range_with_len}
+use Rattle.std.specs.Option.{option_map_or}
+use Rattle.ot_base.specs.declared.tableau.Tableau.{Tableau}
+use Rattle.ot_base.specs.declared.tableau.InputRows.{InputRows}
+use Rattle.ot_theory.specs.Conditions.{fusion}
+use Rattle.ot_theory.specs.Hierarchies.{in_stratum, order_along}
+use Rattle.ot_theory.specs.Languages.{Term, condition_of}
+use Rattle.ot_theory.specs.Problems.{Problem, Input, same_profile}
+use Rattle.report_text.specs.Spelling.{line, spaced, stratum, stratum_count, winner, marks, terms}
+
+abbrev pub title : List ℕ → List ℕ
+title command = line (codes "otsoft report 1" ∷ command ∷ [])
+
+abbrev pub constraint_lines : Tableau → List ℕ
+constraint_lines tableau =
+    line (codes "constraints" ∷ decimal (length tableau.names) ∷ [])
+    ++ flat_map (λ (k, names). line (codes "constraint" ∷ decimal k ∷ names.0 ∷ names.1 ∷ []))
+    (enumerate_from 1 (zip tableau.abbrevs tableau.names))
+
+-- the texts of the candidates with this profile, in file order
+abbrev pub members : InputRows → List ℕ → List (List ℕ)
+members rows profile = map (λ row. row.text) (filter (λ row. same_profile profile row.violations) rows.candidates)
+
+abbrev pub class_line : ℕ → InputRows → ℕ → List ℕ → List ℕ
+class_line i rows a profile =
+    line (codes "class" ∷ (decimal i ++ codes "." ++ decimal a) ∷ spaced profile ∷ members rows profile)
+
+-- an input, of which the rows give the texts and the classes the profiles
+abbrev pub input_lines : ℕ → InputRows → Input → List ℕ
+input_lines i rows input =
+    line (codes "input" ∷ decimal i ∷ rows.text ∷ decimal (length input.classes) ∷ [])
+    ++ flat_map (λ (a, profile). class_line i rows a profile) (enumerate_from 1 input.classes)
+
+-- what every report begins with
+unfoldable pub head : List ℕ → Tableau → Problem → List ℕ
+head command tableau problem =
+    title command
+    ++ constraint_lines tableau
+    ++ line (codes "inputs" ∷ decimal (length tableau.inputs) ∷ [])
+    ++ flat_map (λ (i, input). input_lines i input.0 input.1) (enumerate_from 1 (zip tableau.inputs problem.inputs))
+
+-- the winner of each input, or that it has none
+abbrev pub winner_lines : Problem → List ℕ
+winner_lines problem =
+    flat_map (λ (i, input). line (codes "winner" ∷ decimal i ∷ winner input.winner ∷ [])) (enumerate_from 1 problem.inputs)
+
+-- The line of a stratum: its number, its constraints, and the abbreviation of each of them as a field of its own.
+abbrev pub stratum_line : List (List ℕ) → List ℕ → ℕ → List ℕ
+stratum_line abbreviations levels s =
+    line (codes "stratum" ∷ decimal s ∷ spaced (stratum levels s) ∷ map (λ c. slice_index_or abbreviations c []) (in_stratum levels s))
+
+-- the number of strata, and a line for each from the highest on
+abbrev pub strata_lines : List (List ℕ) → List ℕ → List ℕ
+strata_lines abbreviations levels =
+    line (codes "strata" ∷ decimal (stratum_count levels) ∷ [])
+    ++ flat_map (stratum_line abbreviations levels) (range_with_len 1 (stratum_count levels))
+
+-- the line of the r-measure, where there is one
+abbrev pub measure_line : Option ℕ → List ℕ
+measure_line None = []
+measure_line (Some measure) = line (codes "rmeasure" ∷ decimal measure ∷ [])
+
+-- the first constraint of the order on which a profile differs from the winner's, where it is fatal
+abbrev pub fatal : List ℕ → List ℕ → List ℕ → Option ℕ
+fatal order winning profile = find (λ c. not (slice_index profile c == slice_index winning c)) order
+
+-- the violation of a constraint, and behind it a mark where it is fatal
+abbrev pub violation : List ℕ → Option ℕ → ℕ → List ℕ
+violation profile fatal c = decimal (slice_index profile c) ++ (if option_map_or (λ d. d == c) fatal false then codes "!" else [])
+
+-- the sign of the winner, and that of another class
+abbrev pub sign : Bool → List ℕ
+sign true = codes ">"
+sign false = codes "-"
+
+-- the line of a class: its number, whether it is the winner, and its violations in the order of the ranking
+abbrev pub row_line : List ℕ → ℕ → List ℕ → ℕ → List ℕ → List ℕ
+row_line order w winning a profile =
+    line (codes "row" ∷ decimal (a + 1) ∷ sign (a == w) ∷ map (violation profile (fatal order winning profile)) order)
+
+-- the tableau of an input with these classes and the winner w
+abbrev pub tableau_lines : List ℕ → ℕ → InputRows → List (List ℕ) → ℕ → List ℕ
+tableau_lines order i rows classes w =
+    line (codes "tableau" ∷ decimal i ∷ rows.text ∷ [])
+    ++ line (codes "order" ∷ map (λ c. decimal (c + 1)) order)
+    ++ flat_map (λ (a, profile). row_line order w (slice_index_or classes w []) a profile) (enumerate_from 0 classes)
+
+-- the tableaux of the inputs that have a winner, in file order
+abbrev pub tableaux : List ℕ → Tableau → Problem → List ℕ
+tableaux order tableau problem =
+    flat_map (λ (i, input). option_map_or (tableau_lines order i input.0 input.1.classes) input.1.winner []) (enumerate_from 1 (zip tableau.inputs problem.inputs))
+
+-- The report of a hierarchy that satisfies the conditions of the winners, with its r-measure where it was asked for.
+unfoldable pub rank_report : Tableau → Problem → List ℕ → Option ℕ → List ℕ
+rank_report tableau problem levels measure =
+    head (codes "rank") tableau problem
+    ++ winner_lines problem
+    ++ strata_lines tableau.abbrevs levels
+    ++ measure_line measure
+    ++ tableaux (order_along levels) tableau problem
+    ++ line (codes "end" ∷ [])
+
+-- the fusion of the conditions of terms, and the terms
+abbrev pub contradiction_line : Problem → List Term → List ℕ
+contradiction_line problem list =
+    line (codes "contradiction" ∷ marks (fusion problem.constraints (map (condition_of problem) list)) ∷ terms list ∷ [])
+
+-- The report of a command where no ranking keeps the conditions of the winners, as these terms show.
+unfoldable pub contradiction_report : List ℕ → Tableau → Problem → List Term → List ℕ
+contradiction_report command tableau problem list =
+    head command tableau problem
+    ++ winner_lines problem
+    ++ contradiction_line problem list
+    ++ line (codes "end" ∷ [])

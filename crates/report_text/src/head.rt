@@ -1,0 +1,131 @@
+//! What every report begins with: the title, the constraints, and the inputs with their classes.
+
+ghost use Rattle.std.specs.Prelude.{◌≡◌, ◌+◌, ◌<◌, ◌∷◌, [], ◌++◌, length, codes, decimal, flat_map, slice_get, OnOk, Some};
+ghost use Rattle.ot_theory.specs.Problems.{Input};
+ghost use Rattle.ot_base.specs.Tableaus.{problem_of};
+ghost use Rattle.report_text.specs.Spelling.{line, spaced};
+ghost use Rattle.report_text.specs.Reports as reports;
+
+use crate::text::Text;
+use erc_vectors::NoMemory;
+use ot_base::{ClassId, InId, InputRows, Label, Tableau};
+use violation_profiles::Problem;
+
+/// What stands in the report of a command before the part that is its own: the title, the constraints with their
+/// abbreviations and names, and the inputs, each with its classes, their profiles and the texts of their members.
+pub fn put_head(
+    text: &mut Text,
+    command: &[u8],
+    tableau: &Tableau,
+    problem: &Problem,
+) -> Result<(), NoMemory>
+    requires { problem.now ≡ problem_of tableau.now }
+    ensures { OnOk result (text.new ≡ text.old ++ reports.head command.now tableau.now problem.now) }
+{
+    put_title(text, command)?;
+    put_constraints(text, tableau)?;
+    text.count_line(b"inputs", problem.inputs())?;
+    for (i, rows) in tableau.inputs.as_slice().iter().enumerate() {
+        put_input(text, InId(i as u32), rows, problem)?;
+    }
+    Ok(())
+}
+
+fn put_title(text: &mut Text, command: &[u8]) -> Result<(), NoMemory>
+    ensures { OnOk result (text.new ≡ text.old ++ reports.title command.now) }
+{
+    text.put(b"otsoft report 1")?;
+    text.field(command)?;
+    text.end_line()
+}
+
+/// The number of constraints, and a line for each.
+fn put_constraints(text: &mut Text, tableau: &Tableau) -> Result<(), NoMemory>
+    ensures { OnOk result (text.new ≡ text.old ++ reports.constraint_lines tableau.now) }
+{
+    let names = tableau.names.as_slice();
+    let abbreviations = tableau.abbrevs.as_slice();
+    text.count_line(b"constraints", names.len())?;
+    for k in 0..abbreviations.len().min(names.len()) {
+        put_constraint(text, k + 1, &abbreviations[k], &names[k])?;
+    }
+    Ok(())
+}
+
+/// The line of a constraint: its number, its abbreviation and its name.
+fn put_constraint(
+    text: &mut Text,
+    number: usize,
+    abbreviation: &Label,
+    name: &Label,
+) -> Result<(), NoMemory>
+    ensures { OnOk result (text.new ≡ text.old ++ line (codes "constraint" ∷ decimal number ∷ abbreviation.now ∷ name.now ∷ [])) }
+{
+    text.put(b"constraint")?;
+    text.number_field(number)?;
+    text.field(abbreviation.bytes())?;
+    text.field(name.bytes())?;
+    text.end_line()
+}
+
+/// The line of an input, and those of its classes.
+fn put_input(text: &mut Text, i: InId, rows: &InputRows, problem: &Problem) -> Result<(), NoMemory>
+    requires { i.0 < length problem.now.inputs }
+    ensures { OnOk result ((input : Input) → slice_get problem.now.inputs i.0 ≡ Some input
+        → text.new ≡ text.old ++ reports.input_lines (i.0 + 1) rows.now input) }
+{
+    let number = i.0 as usize + 1;
+    let classes = problem.classes(i);
+    text.put(b"input")?;
+    text.number_field(number)?;
+    text.field(rows.text.bytes())?;
+    text.number_field(classes)?;
+    text.end_line()?;
+    for a in 0..classes {
+        let profile = problem.profile(i, ClassId(a as u16));
+        put_class(text, number, rows, a + 1, profile)?;
+    }
+    Ok(())
+}
+
+/// The line of a class: its numbers, its profile, and the texts of its members.
+fn put_class(
+    text: &mut Text,
+    i: usize,
+    rows: &InputRows,
+    a: usize,
+    profile: &[u32],
+) -> Result<(), NoMemory>
+    ensures { OnOk result (text.new ≡ text.old ++ reports.class_line i rows.now a profile.now) }
+{
+    text.put(b"class")?;
+    text.number_field(i)?;
+    text.put(b".")?;
+    text.number(a)?;
+    text.put(b"\t")?;
+    put_spaced(text, profile)?;
+    put_members(text, rows, profile)?;
+    text.end_line()
+}
+
+/// Numbers with a space between each two.
+fn put_spaced(text: &mut Text, numbers: &[u32]) -> Result<(), NoMemory>
+    ensures { OnOk result (text.new ≡ text.old ++ spaced numbers.now) }
+{
+    for (k, number) in numbers.iter().enumerate() {
+        text.spaced_number(k == 0, *number as usize)?;
+    }
+    Ok(())
+}
+
+/// The texts of the candidates with a profile, in file order, each as a field.
+fn put_members(text: &mut Text, rows: &InputRows, profile: &[u32]) -> Result<(), NoMemory>
+    ensures { OnOk result (text.new ≡ text.old ++ flat_map (λ member. 9 ∷ member) (reports.members rows.now profile.now)) }
+{
+    for row in rows.candidates.as_slice() {
+        if profile == row.violations.as_slice() {
+            text.field(row.text.bytes())?;
+        }
+    }
+    Ok(())
+}

@@ -1,0 +1,172 @@
+//! The tableau of each input that has a winner, with its columns in the order of a ranking.
+
+ghost use Rattle.std.specs.Prelude.{◌≡◌, ◌+◌, ◌<◌, ◌≤◌, ◌∷◌, [], ◌++◌, length, codes, decimal, flat_map, map, option_map, slice_get, OnOk, Some};
+ghost use Rattle.std.specs.Option.{option_map_or};
+ghost use Rattle.std.specs.List.{enumerate_from};
+ghost use Rattle.ot_theory.specs.Problems.{Input};
+ghost use Rattle.ot_theory.specs.Languages.{classes_at, profile_at};
+ghost use Rattle.ot_base.specs.Tableaus.{problem_of};
+ghost use Rattle.ot_base.specs.declared.limits.TheConstants.{INPUT_LIMIT, CANDIDATE_LIMIT};
+ghost use Rattle.report_text.specs.Spelling.{line};
+ghost use Rattle.report_text.specs.Reports as reports;
+
+use crate::text::Text;
+use erc_vectors::{ConId, NoMemory, Order};
+use ot_base::{ClassId, InId, InputRows, Tableau};
+use violation_profiles::Problem;
+
+/// The tableaux of the inputs that have a winner, in file order.
+pub(crate) fn put_tableaux(
+    text: &mut Text,
+    order: &Order,
+    tableau: &Tableau,
+    problem: &Problem,
+) -> Result<(), NoMemory>
+    requires poses { problem.now ≡ problem_of tableau.now }
+    requires few { length tableau.now.inputs ≤ INPUT_LIMIT }
+    requires width { length order.now ≡ problem.now.constraints }
+    ensures { OnOk result (text.new ≡ text.old ++ reports.tableaux order.now tableau.now problem.now) }
+{
+    for (i, rows) in tableau.inputs.as_slice().iter().enumerate() {
+        put_tableau(text, order, InId(i as u32), rows, problem)?;
+    }
+    Ok(())
+}
+
+/// The tableau of an input, and nothing where it has no winner.
+fn put_tableau(
+    text: &mut Text,
+    order: &Order,
+    i: InId,
+    rows: &InputRows,
+    problem: &Problem,
+) -> Result<(), NoMemory>
+    requires within { i.0 < length problem.now.inputs }
+    requires width { length order.now ≡ problem.now.constraints }
+    ensures { OnOk result ((input : Input) → slice_get problem.now.inputs i.0 ≡ Some input
+        → text.new ≡ text.old ++ option_map_or (reports.tableau_lines order.now (i.0 + 1) rows.now input.classes) input.winner []) }
+{
+    match problem.winner(i) {
+        Some(winner) => put_tableau_of(text, order, i, winner, rows, problem),
+        None => Ok(()),
+    }
+}
+
+/// The tableau of an input with a winner: its text, the ranking, and a row for each class.
+fn put_tableau_of(
+    text: &mut Text,
+    order: &Order,
+    i: InId,
+    winner: ClassId,
+    rows: &InputRows,
+    problem: &Problem,
+) -> Result<(), NoMemory>
+    requires within { i.0 < length problem.now.inputs }
+    requires class { winner.0 < length (classes_at problem.now i.0) }
+    requires width { length order.now ≡ problem.now.constraints }
+    ensures { OnOk result (text.new ≡ text.old ++ reports.tableau_lines order.now (i.0 + 1) rows.now (classes_at problem.now i.0) winner.0) }
+{
+    text.put(b"tableau")?;
+    text.number_field(i.0 as usize + 1)?;
+    text.field(rows.text.bytes())?;
+    text.end_line()?;
+    put_order(text, order)?;
+    put_rows(text, order, i, winner, problem)
+}
+
+/// The numbers of the constraints, the highest first.
+fn put_order(text: &mut Text, order: &Order) -> Result<(), NoMemory>
+    ensures { OnOk result (text.new ≡ text.old ++ line (codes "order" ∷ map (λ c. decimal (c + 1)) order.now)) }
+{
+    text.put(b"order")?;
+    for k in 0..order.width() {
+        text.number_field(order.at(k).0 as usize + 1)?;
+    }
+    text.end_line()
+}
+
+/// A row for each class of an input.
+fn put_rows(
+    text: &mut Text,
+    order: &Order,
+    i: InId,
+    winner: ClassId,
+    problem: &Problem,
+) -> Result<(), NoMemory>
+    requires within { i.0 < length problem.now.inputs }
+    requires class { winner.0 < length (classes_at problem.now i.0) }
+    requires width { length order.now ≡ problem.now.constraints }
+    ensures { OnOk result (text.new ≡ text.old
+        ++ flat_map (λ (a, profile). reports.row_line order.now winner.0 (profile_at problem.now i.0 winner.0) a profile) (enumerate_from 0 (classes_at problem.now i.0))) }
+{
+    let winning = problem.profile(i, winner);
+    for a in 0..problem.classes(i) {
+        let profile = problem.profile(i, ClassId(a as u16));
+        put_row(text, order, winner, winning, a, profile)?;
+    }
+    Ok(())
+}
+
+/// The row of a class: its number, whether it is the winner, and its violations.
+fn put_row(
+    text: &mut Text,
+    order: &Order,
+    winner: ClassId,
+    winning: &[u32],
+    a: usize,
+    profile: &[u32],
+) -> Result<(), NoMemory>
+    requires winning { length winning.now ≡ length order.now }
+    requires profile { length profile.now ≡ length order.now }
+    requires small { a < CANDIDATE_LIMIT }
+    ensures { OnOk result (text.new ≡ text.old ++ reports.row_line order.now winner.0 winning.now a profile.now) }
+{
+    text.put(b"row")?;
+    text.number_field(a + 1)?;
+    text.field(sign(a == winner.0 as usize))?;
+    put_violations(text, order, fatal(order, winning, profile), profile)?;
+    text.end_line()
+}
+
+/// The sign of the winner, and of any other class.
+fn sign(wins: bool) -> &'static [u8]
+    ensures { result.now ≡ reports.sign wins }
+{
+    if wins { b">" } else { b"-" }
+}
+
+/// The first constraint of the order on which a profile differs from the winner's.
+fn fatal(order: &Order, winning: &[u32], profile: &[u32]) -> Option<ConId>
+    requires winning { length winning.now ≡ length order.now }
+    requires profile { length profile.now ≡ length order.now }
+    ensures { option_map (λ c. c.0) result ≡ reports.fatal order.now winning.now profile.now }
+{
+    for k in 0..order.width() {
+        let c = order.at(k);
+        if profile[c.0 as usize] != winning[c.0 as usize] {
+            return Some(c);
+        }
+    }
+    None
+}
+
+/// The violations in the order of the ranking, each as a field, with a mark behind the fatal one.
+fn put_violations(
+    text: &mut Text,
+    order: &Order,
+    fatal: Option<ConId>,
+    profile: &[u32],
+) -> Result<(), NoMemory>
+    requires { length profile.now ≡ length order.now }
+    ensures { OnOk result (text.new ≡ text.old
+        ++ flat_map (λ field. 9 ∷ field) (map (reports.violation profile.now (option_map (λ c. c.0) fatal)) order.now)) }
+{
+    for k in 0..order.width() {
+        let constraint = order.at(k);
+        text.number_field(profile[constraint.0 as usize] as usize)?;
+        if fatal == Some(constraint) {
+            text.put(b"!")?;
+        }
+    }
+    Ok(())
+}

@@ -1,0 +1,116 @@
+//! A text that grows at its end, by bytes, numbers and fields.
+
+ghost use Rattle.std.specs.Prelude.{◌≡◌, [], ◌∷◌, ◌++◌, OnOk, decimal, if◌then◌else◌};
+ghost use Rattle.report_text.specs.Spelling.{line};
+
+use erc_vectors::NoMemory;
+use itoa::Buffer;
+use ot_base::Label;
+use std::alloc::Global;
+use std::marker::Model;
+
+/// A text of bytes that grows at its end. It keeps the allocator that it was made with. After a call that finds no memory it
+/// may hold a part of what was to be written.
+#[derive(Debug, Drop)]
+pub struct Text {
+    bytes: Vec<u8>,
+}
+
+impl Model for Text {
+    ghost use Rattle.std.specs.Prelude.{List, ℕ};
+
+    ghost Value = { List ℕ };
+
+    ghost view = { λ text. text.bytes.items };
+}
+
+impl Text {
+    /// The empty text, which takes no memory yet.
+    pub fn new(alloc: Global) -> Text
+        ensures { result ≡ [] }
+    {
+        Text {
+            bytes: Vec::new(alloc),
+        }
+    }
+
+    /// The bytes, in order.
+    pub fn bytes(&self) -> &[u8]
+        ensures { result.now ≡ self.now }
+    {
+        self.bytes.as_slice()
+    }
+
+    /// The text itself as a label, without a copy.
+    pub fn into_label(self) -> Label
+        ensures { result ≡ self }
+    {
+        Label::from_vec(self.bytes)
+    }
+
+    /// The bytes behind the others.
+    pub fn put(&mut self, bytes: &[u8]) -> Result<(), NoMemory>
+        ensures { OnOk result (self.new ≡ self.old ++ bytes.now) }
+    {
+        match self.bytes.extend_from_slice(bytes) {
+            Ok(()) => Ok(()),
+            Err(_) => Err(NoMemory),
+        }
+    }
+
+    /// A number in decimal.
+    pub fn number(&mut self, n: usize) -> Result<(), NoMemory>
+        ensures { OnOk result (self.new ≡ self.old ++ decimal n) }
+    {
+        let mut buffer = Buffer::new();
+        let digits = buffer.format(n);
+        self.put(digits.as_bytes())
+    }
+
+    /// What stands before an item of a list, unless it is the first.
+    pub fn separator(&mut self, first: bool, bytes: &[u8]) -> Result<(), NoMemory>
+        ensures { OnOk result (self.new ≡ self.old ++ (if first then [] else bytes.now)) }
+    {
+        if first { Ok(()) } else { self.put(bytes) }
+    }
+
+    /// A number of a list with a space between each two.
+    pub fn spaced_number(&mut self, first: bool, n: usize) -> Result<(), NoMemory>
+        ensures { OnOk result (self.new ≡ self.old ++ ((if first then [] else 32 ∷ []) ++ decimal n)) }
+    {
+        self.separator(first, b" ")?;
+        self.number(n)
+    }
+
+    /// A tab and a text.
+    pub fn field(&mut self, bytes: &[u8]) -> Result<(), NoMemory>
+        ensures { OnOk result (self.new ≡ self.old ++ 9 ∷ bytes.now) }
+    {
+        self.put(b"\t")?;
+        self.put(bytes)
+    }
+
+    /// A tab and a number in decimal.
+    pub fn number_field(&mut self, n: usize) -> Result<(), NoMemory>
+        ensures { OnOk result (self.new ≡ self.old ++ 9 ∷ decimal n) }
+    {
+        self.put(b"\t")?;
+        self.number(n)
+    }
+
+    /// A line with a word and a number.
+    pub fn count_line(&mut self, word: &[u8], n: usize) -> Result<(), NoMemory>
+        ensures { OnOk result (self.new ≡ self.old ++ line (word.now ∷ decimal n ∷ [])) }
+    {
+        self.put(word)?;
+        self.number_field(n)?;
+        self.end_line()
+    }
+
+    /// The end of a line, one byte.
+    pub fn end_line(&mut self) -> Result<(), NoMemory>
+        ensures { OnOk result (self.new ≡ self.old ++ 10 ∷ []) }
+    {
+        self.put(b"\n")
+    }
+}

@@ -1,0 +1,4 @@
+pub mod Acceptable
+pub mod Inputs
+pub mod Found
+pub mod Joined

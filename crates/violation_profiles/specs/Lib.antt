@@ -1,0 +1,3 @@
+pub mod WellFormed
+pub mod Classes
+pub mod Laws

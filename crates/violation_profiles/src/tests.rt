@@ -1,0 +1,147 @@
+ghost use Rattle.std.specs.Prelude.{◌≡◌, ◌<◌, length, IfOk};
+ghost use Rattle.ot_base.specs.Acceptable.{IsRow, AreRows, IsAcceptable};
+
+use crate::Problem;
+use erc_vectors::{ConId, List, NoMemory};
+use ot_base::{CandidateRow, ClassId, InId, InputRows, Label, Tableau};
+use std::alloc::Global;
+use std::test::Fail;
+
+/// A candidate's count and its violations of four constraints.
+type Row = (u64, [u8; 4]);
+
+fn row(alloc: Global, count: u64, marks: &[u8; 4]) -> Result<CandidateRow, NoMemory>
+    ensures { IfOk result (λ row. IsRow 4 row) }
+{
+    let mut violations = List::new(alloc);
+    for violation in marks {
+        violations.push(u32::from(*violation))?;
+    }
+    Ok(CandidateRow {
+        text: Label::of(alloc, b"")?,
+        count,
+        violations,
+        line: 3,
+    })
+}
+
+fn input(alloc: Global, rows: &[Row; 3]) -> Result<InputRows, NoMemory>
+    ensures { IfOk result (λ input. AreRows 4 input) }
+{
+    let mut candidates = List::new(alloc);
+    for (count, marks) in rows {
+        candidates.push(row(alloc, *count, marks)?)?;
+    }
+    Ok(InputRows {
+        text: Label::of(alloc, b"")?,
+        candidates,
+    })
+}
+
+fn names(alloc: Global) -> Result<List<Label>, NoMemory>
+    ensures { IfOk result (λ names. length names ≡ 4) }
+{
+    let mut names = List::new(alloc);
+    for _ in 0..4_usize {
+        names.push(Label::of(alloc, b"")?)?;
+    }
+    Ok(names)
+}
+
+fn tableau(alloc: Global, rows: &[[Row; 3]; 2]) -> Result<Tableau, NoMemory>
+    ensures { IfOk result IsAcceptable }
+{
+    let mut inputs = List::new(alloc);
+    inputs.push(input(alloc, &rows[0])?)?;
+    inputs.push(input(alloc, &rows[1])?)?;
+    Ok(Tableau {
+        names: names(alloc)?,
+        abbrevs: names(alloc)?,
+        inputs,
+    })
+}
+
+/// The marks of the conditions of each class of an input over each other one.
+fn push_conditions(text: &mut String, problem: &Problem, i: InId) -> Result<(), Fail>
+    requires { i.0 < length problem.now.inputs }
+{
+    for a in 0..problem.classes(i) {
+        for b in 0..problem.classes(i) {
+            if a != b {
+                let condition = problem.condition(i, ClassId(a as u16), ClassId(b as u16));
+                for c in 0..condition.width() {
+                    let mark = condition.mark(ConId(c as u16));
+                    write!(text, "{mark:?}")?;
+                }
+                text.push(' ')?;
+            }
+        }
+    }
+    Ok(())
+}
+
+/// Of each input the classes, with profile and members, then its winner, then the conditions between its classes.
+fn shown(alloc: Global, problem: &Problem) -> Result<String, Fail> {
+    let mut text = String::new(alloc);
+    for k in 0..problem.inputs() {
+        let i = InId(k as u32);
+        for a in 0..problem.classes(i) {
+            let class = ClassId(a as u16);
+            let profile = problem.profile(i, class);
+            let members = problem.members(i, class);
+            write!(text, "{profile:?} {members:?} ")?;
+        }
+        let winner = problem.winner(i).map(|a| a.0);
+        write!(text, "{winner:?} ")?;
+        push_conditions(&mut text, problem, i)?;
+    }
+    Ok(text)
+}
+
+/// What a tableau of these rows poses.
+fn posed(alloc: Global, rows: &[[Row; 3]; 2]) -> Result<String, Fail> {
+    let problem = Problem::of(alloc, &tableau(alloc, rows)?)?;
+    shown(alloc, &problem)
+}
+
+#[test]
+fn basic_syllable_structure(rt: HostRuntime) -> Result<(), Fail> {
+    let rows = [
+        [(1, [1, 0, 0, 0]), (0, [0, 0, 0, 1]), (0, [0, 0, 1, 0])],
+        [(1, [0, 1, 0, 0]), (0, [0, 0, 0, 1]), (0, [0, 0, 1, 0])],
+    ];
+    assert_eq!(rt;
+        posed(rt.alloc(), &rows)?.as_str(),
+        "[1, 0, 0, 0] [0] [0, 0, 0, 1] [1] [0, 0, 1, 0] [2] Some(0) LEEW LEWE WEEL EEWL WELE EELW \
+         [0, 1, 0, 0] [0] [0, 0, 0, 1] [1] [0, 0, 1, 0] [2] Some(0) ELEW ELWE EWEL EEWL EWLE EELW "
+    );
+    Ok(())
+}
+
+#[test]
+fn equal_profiles_and_the_first_of_equal_counts(rt: HostRuntime) -> Result<(), Fail> {
+    let rows = [
+        [(1, [2, 0, 1, 0]), (3, [1, 0, 1, 3]), (3, [2, 0, 1, 0])],
+        [(1, [0, 0, 0, 0]), (0, [0, 0, 0, 0]), (2, [0, 0, 0, 9])],
+    ];
+    assert_eq!(rt;
+        posed(rt.alloc(), &rows)?.as_str(),
+        "[2, 0, 1, 0] [0, 2] [1, 0, 1, 3] [1] Some(1) LEEW WEEL \
+         [0, 0, 0, 0] [0, 1] [0, 0, 0, 9] [2] Some(1) EEEW EEEL "
+    );
+    Ok(())
+}
+
+#[test]
+fn no_count_and_one_class(rt: HostRuntime) -> Result<(), Fail> {
+    let rows = [
+        [(0, [0, 0, 1, 0]), (0, [0, 0, 0, 1]), (0, [0, 0, 0, 1])],
+        [(0, [1, 1, 1, 1]), (1, [1, 1, 1, 1]), (0, [1, 1, 1, 1])],
+    ];
+    assert_eq!(rt;
+        posed(rt.alloc(), &rows)?.as_str(),
+        "[0, 0, 1, 0] [0] [0, 0, 0, 1] [1, 2] None EELW EEWL \
+         [1, 1, 1, 1] [0, 1, 2] Some(0) "
+    );
+    Ok(())
+}
