@@ -12,7 +12,7 @@ fn two_classes(alloc: Global, inputs: usize) -> Result<String, AllocError> {
     Ok(file)
 }
 
-/// Its report: where B stands above A each input has its first class, else its second.
+/// Its report: where B stands above A each input has its first class, else its second. No ranking mixes them.
 fn two_languages(alloc: Global, inputs: usize) -> Result<String, AllocError> {
     let mut report = String::from_str(
         alloc,
@@ -33,8 +33,48 @@ fn two_languages(alloc: Global, inputs: usize) -> Result<String, AllocError> {
         }
         write!(report, "\t{hierarchy}\n")?;
     }
+    two_cuts(&mut report, inputs)?;
     report.push_str("end\n")?;
     Ok(report)
+}
+
+/// A prefix is cut at the first input that does not go with input 1, and the two of them show it. Longer prefixes come before
+/// shorter ones where input 1 has its first class, and behind them where it has its second.
+fn two_cuts(report: &mut String, inputs: usize) -> Result<(), AllocError> {
+    let half = inputs.saturating_sub(1);
+    let cuts = half.saturating_add(half);
+    write!(report, "certificates\t{cuts}\n")?;
+    for k in 1..inputs {
+        let last = inputs - k + 1;
+        write!(report, "certificate\t{k}\tLL\t1:1>2 {last}:2>1\n")?;
+    }
+    for k in 1..inputs {
+        let number = half.saturating_add(k);
+        let last = k + 1;
+        write!(report, "certificate\t{number}\tLL\t1:2>1 {last}:1>2\n")?;
+    }
+    write!(report, "cuts\t{cuts}\n")?;
+    for k in 1..inputs {
+        cut_line(report, k, "1 ", inputs - k, "2")?;
+    }
+    for k in 1..inputs {
+        cut_line(report, half.saturating_add(k), "2 ", k, "1")?;
+    }
+    Ok(())
+}
+
+fn cut_line(
+    report: &mut String,
+    number: usize,
+    class: &str,
+    times: usize,
+    last: &str,
+) -> Result<(), AllocError> {
+    write!(report, "cut\t{number}\t")?;
+    for _ in 0..times {
+        report.push_str(class)?;
+    }
+    write!(report, "{last}\t{number}\n")
 }
 
 fn typology_of(alloc: Global, file: &str) -> Result<Left, erc_vectors::NoMemory> {
@@ -45,26 +85,16 @@ fn typology_of(alloc: Global, file: &str) -> Result<Left, erc_vectors::NoMemory>
     )
 }
 
-/// Sixteen inputs of two classes have 65,536 choices, all of which are tried, and seventeen have too many
-/// for a typology alone.
+/// Of 65,536 choices, and of many more than could be tried, the search finds the two languages.
 #[test]
-fn the_greatest_number_of_choices(rt: HostRuntime) -> Result<(), Fail> {
+fn many_choices(rt: HostRuntime) -> Result<(), Fail> {
     let alloc = rt.alloc();
-    let file = two_classes(alloc, 16)?;
-    let left = typology_of(alloc, file.as_str())?;
-    assert_eq!(rt; left.status, Status::Done);
-    assert!(rt; left.out.written() == two_languages(alloc, 16)?.as_bytes());
-    let file = two_classes(alloc, 17)?;
-    let left = typology_of(alloc, file.as_str())?;
-    assert_eq!(rt; left.status, Status::Refused);
-    assert!(rt; left.out.written().is_empty());
-    assert!(rt; left.err.written() == b"a.txt:1: F0 NotYet\n".as_slice());
-    let left = run_on(
-        alloc,
-        &["rank", "a.txt"],
-        &Outside::sound("a.txt", file.as_bytes()),
-    )?;
-    assert_eq!(rt; left.status, Status::Done);
+    for inputs in [16, 17, 100] {
+        let file = two_classes(alloc, inputs)?;
+        let left = typology_of(alloc, file.as_str())?;
+        assert_eq!(rt; left.status, Status::Done);
+        assert!(rt; left.out.written() == two_languages(alloc, inputs)?.as_bytes());
+    }
     Ok(())
 }
 

@@ -7,7 +7,6 @@ ghost use Rattle.ot_base.specs.Outside.{KeepsFiles, SinkRose};
 ghost use Rattle.otsoft_run.specs.declared.judging.Posed.{Posed};
 ghost use Rattle.otsoft_run.specs.Answers.{Refusal, Judges, ReadsRose, IsReadOut, HasReport, AppendsPart, Says, SaysRefused, SaysUnread, is_after_reading, is_without_output, is_written, written_status, MayContradict, unwritten_line, memory_line, refusal_line, refusal_of};
 
-use crate::judging::Reason;
 use crate::lines::{refusal_text, unread_text};
 use crate::posing::{PoseError, pose};
 use crate::report::report_of;
@@ -16,6 +15,7 @@ use crate::words::Settings;
 use crate::writing::{out_of_memory, say, write_all};
 use ot_base::{Failed, Files, Sink};
 use std::alloc::Global;
+use tableau_file::Why;
 
 /// Reads the file of a command, and writes its report.
 pub(crate) fn answer<F: Files, O: Sink, E: Sink>(
@@ -63,8 +63,8 @@ pub(crate) fn answer<F: Files, O: Sink, E: Sink>(
             say(err, unread.as_slice());
             return Status::ReadFault;
         }
-        Err(PoseError::Refused { line, reason }) => {
-            return refuse(alloc, err, settings.file(), line, reason);
+        Err(PoseError::Refused { line, why }) => {
+            return refuse(alloc, err, settings.file(), line, why);
         }
         Err(PoseError::NoMemory) => return out_of_memory(err),
     };
@@ -75,12 +75,12 @@ pub(crate) fn answer<F: Files, O: Sink, E: Sink>(
 }
 
 /// Tells a refusal.
-fn refuse<E: Sink>(alloc: Global, err: &mut E, file: &str, line: u32, reason: Reason) -> Status
+fn refuse<E: Sink>(alloc: Global, err: &mut E, file: &str, line: u32, why: Why) -> Status
     ensures status { (result ≡ Status.Refused) ⊎ (result ≡ Status.NoMemory) }
-    ensures refused { result ≡ Status.Refused → Says (E.told err.old) (E.told err.new) (refusal_line (refusal_of file.now line reason)) }
+    ensures refused { result ≡ Status.Refused → Says (E.told err.old) (E.told err.new) (refusal_line (refusal_of file.now line why)) }
     ensures no_memory { result ≡ Status.NoMemory → Says (E.told err.old) (E.told err.new) memory_line }
 {
-    let Ok(text) = refusal_text(alloc, file, line, reason) else {
+    let Ok(text) = refusal_text(alloc, file, line, why) else {
         return out_of_memory(err);
     };
     say(err, text.as_slice());

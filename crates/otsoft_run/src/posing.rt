@@ -7,20 +7,21 @@ ghost use Rattle.ot_base.specs.Outside.{KeepsFiles, FilesRose};
 ghost use Rattle.ot_base.specs.Acceptable.{IsAcceptable};
 ghost use Rattle.ot_base.specs.Tableaus.{problem_of};
 ghost use Rattle.otsoft_run.specs.Answers.{judged, refusal_of};
-ghost use Rattle.otsoft_run.specs.Poses.{IsReadThrough, IsTried};
+ghost use Rattle.otsoft_run.specs.Poses.{IsReadThrough};
 ghost use Rattle.otsoft_run.specs.Words.{file_of};
 
-use crate::judging::{JudgeError, Posed, Reason, judge};
+use crate::judging::{JudgeError, Posed, judge};
 use crate::reading::{ReadEnd, read_whole};
 use crate::words::Settings;
 use ot_base::Files;
 use std::alloc::Global;
+use tableau_file::Why;
 
 /// Why a file gives no tableau.
 #[derive(Clone, Copy, Debug, PartialEq, Eq)]
 pub(crate) enum PoseError {
     Fault,
-    Refused { line: u32, reason: Reason },
+    Refused { line: u32, why: Why },
     NoMemory,
 }
 
@@ -30,12 +31,11 @@ pub(crate) fn pose<F: Files>(
     files: &mut F,
     settings: &Settings,
 ) -> Result<Posed, PoseError>
-    ensures accepted { IfOk result (λ posed. (bytes : List ℕ) → (F.told files.old).stored (file_of settings.now) ≡ Some bytes → judged settings.now bytes ≡ Ok posed) }
+    ensures accepted { IfOk result (λ posed. (bytes : List ℕ) → (F.told files.old).stored (file_of settings.now) ≡ Some bytes → judged (file_of settings.now) bytes ≡ Ok posed) }
     ensures poses { IfOk result (λ posed. posed.problem ≡ problem_of posed.tableau) }
     ensures acceptable { IfOk result (λ posed. IsAcceptable posed.tableau) }
-    ensures tried { IfOk result (λ posed. IsTried settings.now posed) }
-    ensures refused { (line : ℕ) (reason : Reason) → result ≡ Err (PoseError.Refused line reason) → (bytes : List ℕ) → (F.told files.old).stored (file_of settings.now) ≡ Some bytes
-        → judged settings.now bytes ≡ Err (refusal_of (file_of settings.now) line reason) }
+    ensures refused { (line : ℕ) (why : Why) → result ≡ Err (PoseError.Refused line why) → (bytes : List ℕ) → (F.told files.old).stored (file_of settings.now) ≡ Some bytes
+        → judged (file_of settings.now) bytes ≡ Err (refusal_of (file_of settings.now) line why) }
     ensures read_through { IsReadThrough result → ((F.told files.new).failed ≡ (F.told files.old).failed)
         × ((bytes : List ℕ) → (F.told files.old).stored (file_of settings.now) ≡ Some bytes → (F.told files.new).left ≡ Some (drop (FILE_LIMIT + 1) bytes)) }
     ensures fault { result ≡ Err PoseError.Fault → FilesRose (file_of settings.now) (F.told files.old) (F.told files.new) }
@@ -47,9 +47,9 @@ pub(crate) fn pose<F: Files>(
         Err(ReadEnd::Fault) => return Err(PoseError::Fault),
         Err(ReadEnd::NoMemory) => return Err(PoseError::NoMemory),
     };
-    match judge(alloc, settings, bytes.as_slice()) {
+    match judge(alloc, bytes.as_slice()) {
         Ok(posed) => Ok(posed),
-        Err(JudgeError::Refused { line, reason }) => Err(PoseError::Refused { line, reason }),
+        Err(JudgeError::Refused { line, why }) => Err(PoseError::Refused { line, why }),
         Err(JudgeError::NoMemory) => Err(PoseError::NoMemory),
     }
 }

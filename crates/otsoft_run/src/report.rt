@@ -1,25 +1,24 @@
 //! The report of a command.
 
-ghost use Rattle.std.specs.Prelude.{◌≡◌, ◌≤◌, IfOk, IsTrue};
+ghost use Rattle.std.specs.Prelude.{◌≡◌, IfOk, IsTrue};
 ghost use Rattle.ot_base.specs.Acceptable.{IsAcceptable};
 ghost use Rattle.ot_base.specs.Tableaus.{problem_of};
-ghost use Rattle.ot_theory.specs.Languages.{choice_count};
 ghost use Rattle.ot_theory.specs.Refutations.{is_contradicted};
-ghost use Rattle.otsoft_run.specs.declared.judging.TheConstants.{CHOICE_LIMIT};
 ghost use Rattle.otsoft_run.specs.Answers.{IsReport, IsTypologyReport, IsRankReport, is_written, status_by, written_status};
-ghost use Rattle.otsoft_run.specs.Poses.{IsTried};
 
 use crate::judging::Posed;
-use crate::languages::languages_of;
 use crate::status::Status;
-use crate::typology_text::typology_text;
 use crate::words::Settings;
 use demotion::least_hierarchy;
 use erc_vectors::NoMemory;
 use ot_base::Label;
 use refutation::{conditions_of, core_of, winner_terms};
-use report_text::{contradiction_text, rank_text};
+use report_text::{contradiction_text, rank_text, typology_text};
 use std::alloc::Global;
+use typology_core::search_alone;
+
+/// How many contradictions a search keeps to consult them.
+const PLACES: usize = 1_024;
 
 /// A report, and the status of a run that wrote it whole.
 #[derive(Debug, Drop)]
@@ -36,7 +35,6 @@ pub(crate) fn report_of(
 ) -> Result<Report, NoMemory>
     requires poses { posed.now.problem ≡ problem_of posed.now.tableau }
     requires acceptable { IsAcceptable posed.now.tableau }
-    requires tried { IsTried settings.now posed.now }
     ensures report { IfOk result (λ report. IsReport settings.now posed.now report.text) }
     ensures status { IfOk result (λ report. report.status ≡ written_status settings.now posed.now) }
     ensures written { IfOk result (λ report. IsTrue (is_written report.status)) }
@@ -50,15 +48,13 @@ pub(crate) fn report_of(
     }
 }
 
-/// The report of the languages of a tableau.
+/// The report of the languages, cuts and certificates of a tableau.
 fn typology_report(alloc: Global, posed: &Posed) -> Result<Label, NoMemory>
     requires poses { posed.now.problem ≡ problem_of posed.now.tableau }
-    requires few { choice_count posed.now.problem.inputs ≤ CHOICE_LIMIT }
     ensures { IfOk result (λ report. IsTypologyReport posed.now report) }
 {
-    let found = languages_of(alloc, &posed.problem)?;
-    let text = typology_text(alloc, &posed.tableau, &posed.problem, found.as_slice())?;
-    Ok(text.into_label())
+    let alone = search_alone(alloc, &posed.problem, PLACES)?;
+    typology_text(alloc, &posed.tableau, &posed.problem, &alone.typology)
 }
 
 /// The report of the least hierarchy of the winners, or of why there is none.

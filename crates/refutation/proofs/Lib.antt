@@ -1,3 +1,4 @@
 pub mod SoFar
 pub mod Fronts
 pub mod Winning
+pub mod TermsOfPrefixes

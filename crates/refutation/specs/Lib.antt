@@ -1,2 +1,5 @@
+pub mod Laws
+pub mod Prefixes
 pub mod Terms
+pub mod Typologies
 pub mod Winners

@@ -115,8 +115,9 @@ fn fuse_to_contradiction(p: &Problem, terms: &[Term]) -> bool
     }
 }
 
-/// The fusion of the conditions of some terms, of which there is at least one.
-fn fusion_of(p: &Problem, first: &Term, rest: &[Term]) -> Condition
+/// The fusion of the conditions of some terms, of which there is at least one (Prince 2002): a mark for each constraint.
+/// The terms' numbers are in range, and no loser is the winner. It takes no memory.
+pub fn fusion_of(p: &Problem, first: &Term, rest: &[Term]) -> Condition
     requires first { IsTrue (is_term p.now (term_of first.now)) }
     requires rest { IsTrue (are_terms p.now rest.now) }
     ensures { result ≡ fusion p.now.constraints (map (condition_of p.now) (term_of first.now ∷ terms_in rest.now)) }

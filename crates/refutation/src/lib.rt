@@ -1,22 +1,32 @@
-//! Terms, the conditions that they stand for, and the contradictions that show that no ranking keeps some of them.
+//! Terms, the conditions that they stand for, the contradictions that show that no ranking keeps some of them, and so which
+//! prefixes of choices no ranking makes optimal.
 //!
 //! A term stands for an elementary ranking condition of Prince (Entailed Ranking Arguments, 2002): that of a class of an
 //! input, as winner, over another one, as loser. A contradiction is some terms, with one winner for each input, whose
-//! conditions fuse to an L and no W; that no ranking keeps them is proved in `ot_theory`. The certificate, which is
-//! what remains of terms that no ranking keeps when each is dropped, from the last to the first, without which the
-//! others are still kept by none, is this project's own.
+//! conditions fuse to an L and no W; that no ranking keeps them is proved in `ot_theory`. It refutes each prefix that makes
+//! all of its winner choices. The certificate, which is what remains of terms that no ranking keeps when each is dropped, from
+//! the last to the first, without which the others are still kept by none, and the cuts, which are the shortest prefixes that
+//! hold under no ranking, are this project's own.
 #![tactic(auto)]
 
 mod certificate;
 mod contradiction;
+mod laws;
+mod prefix;
+mod refuting;
 mod shared;
 mod term;
 #[cfg(test)]
 mod tests;
+mod typology;
 mod winners;
 
 pub use certificate::core_of;
-pub use contradiction::{Contradiction, is_genuine};
-pub use shared::contradictions_go;
+pub use contradiction::{Contradiction, fusion_of, is_genuine};
+pub use laws::genuine_refutes;
+pub use prefix::Prefix;
+pub use refuting::{deletion_core, refutes, terms_of};
+pub use shared::{contradictions_go, typologies_go};
 pub use term::{Term, condition_of, conditions_of};
+pub use typology::{Cut, Language, Typology};
 pub use winners::winner_terms;

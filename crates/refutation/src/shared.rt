@@ -1,6 +1,6 @@
 //! Which types may go to another thread: each call below is refused if its type may not.
 
-use crate::{Contradiction, Term};
+use crate::{Contradiction, Cut, Language, Prefix, Term, Typology};
 
 fn goes<T: Send>(_value: &T) {}
 
@@ -12,4 +12,16 @@ pub fn contradictions_go(term: &Term, contradiction: &Contradiction) {
     goes(contradiction);
     is_shared(term);
     is_shared(contradiction);
+}
+
+/// A prefix, a language, a cut and a typology may go to another thread, and threads may share them.
+pub fn typologies_go(prefix: &Prefix, language: &Language, cut: &Cut, typology: &Typology) {
+    goes(prefix);
+    goes(language);
+    goes(cut);
+    goes(typology);
+    is_shared(prefix);
+    is_shared(language);
+    is_shared(cut);
+    is_shared(typology);
 }

@@ -1,8 +1,14 @@
-ghost use Rattle.std.specs.Prelude.{◌≡◌, length, IfOk, IsTrue};
+ghost use Rattle.std.specs.Prelude.{◌≡◌, length, IfOk, IsTrue, true};
 ghost use Rattle.ot_base.specs.Acceptable.{IsRow, AreRows, IsAcceptable};
+ghost use Rattle.ot_theory.specs.Languages.{refuted};
+ghost use Rattle.refutation.specs.Prefixes.{class_numbers};
+ghost use Rattle.violation_profiles.specs.WellFormed.{IsPrefix};
 
 use crate::certificate::is_hopeless;
-use crate::{Contradiction, Term, condition_of, conditions_of, core_of, is_genuine, winner_terms};
+use crate::{
+    Contradiction, Prefix, Term, condition_of, conditions_of, core_of, deletion_core, is_genuine,
+    refutes, terms_of, winner_terms,
+};
 use erc_vectors::{ConId, List, NoMemory};
 use ot_base::{CandidateRow, ClassId, InId, InputRows, Label, Tableau};
 use std::alloc::Global;
@@ -189,5 +195,112 @@ fn condition_of_a_term(rt: HostRuntime) -> Result<(), Fail> {
         text.push(' ')?;
     }
     assert_eq!(rt; text.as_str(), "WLE EWL ");
+    Ok(())
+}
+
+/// Whether each class is one of its input.
+fn is_prefix(problem: &Problem, prefix: &[ClassId]) -> bool
+    ensures { result ≡ true → IsPrefix problem.now (class_numbers prefix.now) }
+{
+    if prefix.len() > problem.inputs() {
+        return false;
+    }
+    for (i, class) in prefix.iter().enumerate() {
+        if class.0 as usize >= problem.classes(InId(i as u32)) {
+            return false;
+        }
+    }
+    true
+}
+
+/// Whether no ranking keeps the conditions of a prefix.
+fn is_refuted(alloc: Global, problem: &Problem, prefix: &[ClassId]) -> Result<bool, NoMemory>
+    requires { IsPrefix problem.now (class_numbers prefix.now) }
+    ensures { IfOk result (λ answer. answer ≡ refuted problem.now (class_numbers prefix.now)) }
+{
+    let terms = terms_of(alloc, problem, prefix)?;
+    let conditions = conditions_of(alloc, problem, terms.as_slice())?;
+    Ok(is_hopeless(problem.constraints(), &conditions))
+}
+
+/// The terms of a prefix of these rows.
+fn terms(rt: &impl Abort, alloc: Global, rows: &Rows, prefix: &[ClassId]) -> Result<String, Fail> {
+    let problem = problem(alloc, rows)?;
+    assert!(rt; is_prefix(&problem, prefix));
+    let terms = terms_of(alloc, &problem, prefix)?;
+    shown(alloc, terms.as_slice())
+}
+
+#[test]
+fn terms_of_prefixes(rt: HostRuntime) -> Result<(), Fail> {
+    let cases: [(&[ClassId], &str); 4] = [
+        (&[], ""),
+        (&[ClassId(0)], "1:1>2 1:1>3 "),
+        (&[ClassId(0), ClassId(1)], "1:1>2 1:1>3 2:2>1 2:2>3 "),
+        (&[ClassId(2), ClassId(2)], "1:3>1 1:3>2 2:3>1 2:3>2 "),
+    ];
+    for (prefix, want) in cases {
+        let text = terms(&rt, rt.alloc(), &stops([0, 0, 0], [0, 0, 0]), prefix)?;
+        assert_eq!(rt; text.as_str(), want);
+    }
+    Ok(())
+}
+
+/// The certificate of a prefix of these rows, which no ranking makes optimal.
+fn certificate_of_prefix(
+    rt: &impl Abort,
+    alloc: Global,
+    rows: &Rows,
+    prefix: &[ClassId],
+) -> Result<String, Fail> {
+    let problem = problem(alloc, rows)?;
+    assert!(rt; is_prefix(&problem, prefix));
+    let hopeless = is_refuted(alloc, &problem, prefix)?;
+    assert!(rt; hopeless);
+    let core = deletion_core(alloc, &problem, prefix)?;
+    assert!(rt; is_genuine(&problem, &core));
+    assert!(rt; refutes(&core, prefix));
+    shown(alloc, core.terms.as_slice())
+}
+
+#[test]
+fn certificates_of_prefixes(rt: HostRuntime) -> Result<(), Fail> {
+    let both = [ClassId(0), ClassId(1)];
+    let text = certificate_of_prefix(&rt, rt.alloc(), &stops([0, 0, 0], [0, 0, 0]), &both)?;
+    assert_eq!(rt; text.as_str(), "1:1>2 2:2>1 ");
+    let both = [ClassId(1), ClassId(2)];
+    let text = certificate_of_prefix(&rt, rt.alloc(), &stops([0, 0, 0], [0, 0, 0]), &both)?;
+    assert_eq!(rt; text.as_str(), "1:2>3 2:3>2 ");
+    let text = certificate_of_prefix(&rt, rt.alloc(), &COMPROMISE, &[ClassId(2)])?;
+    assert_eq!(rt; text.as_str(), "1:3>1 1:3>2 ");
+    Ok(())
+}
+
+#[test]
+fn refuted_prefixes(rt: HostRuntime) -> Result<(), Fail> {
+    let both = contradiction(rt.alloc(), &[(0, 0, 1), (1, 1, 0)])?;
+    let cases: [(&[ClassId], bool); 6] = [
+        (&[], false),
+        (&[ClassId(0)], false),
+        (&[ClassId(0), ClassId(1)], true),
+        (&[ClassId(0), ClassId(1), ClassId(7)], true),
+        (&[ClassId(0), ClassId(0)], false),
+        (&[ClassId(1), ClassId(1)], false),
+    ];
+    for (prefix, want) in cases {
+        assert_eq!(rt; refutes(&both, prefix), want);
+    }
+    let none = contradiction(rt.alloc(), &[])?;
+    assert!(rt; refutes(&none, &[]));
+    Ok(())
+}
+
+#[test]
+fn children_and_copies(rt: HostRuntime) -> Result<(), Fail> {
+    let alloc = rt.alloc();
+    let first = Prefix::empty(alloc).child(alloc, ClassId(4))?;
+    let both = first.child(alloc, ClassId(2))?.copy(alloc)?;
+    assert_eq!(rt; first.as_slice(), [ClassId(4)].as_slice());
+    assert_eq!(rt; both.as_slice(), [ClassId(4), ClassId(2)].as_slice());
     Ok(())
 }

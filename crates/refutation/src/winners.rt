@@ -29,7 +29,7 @@ pub fn winner_terms(alloc: Global, p: &Problem) -> Result<List<Term>, NoMemory>
 }
 
 /// Adds a class of an input against each other class of it.
-fn add_terms(
+pub(crate) fn add_terms(
     terms: &mut List<Term>,
     p: &Problem,
     input: InId,

@@ -7,7 +7,7 @@ use Rattle.ot_base.specs.declared.tableau.InputRows.{InputRows}
 use Rattle.ot_base.specs.declared.tableau.Tableau.{Tableau}
 use Rattle.ot_base.specs.Tableaus.{problem_of}
 use Rattle.ot_theory.specs.Languages.{Term}
-use Rattle.report_text.specs.Reports.{head, rank_report, contradiction_report}
+use Rattle.report_text.specs.Reports.{head, rank_report, contradiction_report, cut_line, typology_report}
 
 abbrev candidate : List ℕ → ℕ → List ℕ → CandidateRow
 candidate text count violations = record { text = text; count = count; violations = violations; line = 3 }
@@ -59,3 +59,37 @@ against i a b = record { input = i; winner = a; loser = b }
 pub contradiction_of_codas : contradiction_report (codes "rank") codas (problem_of codas) (against 0 0 1 ∷ against 1 1 0 ∷ []) ≡ codes "otsoft report 1\trank\nconstraints\t3\nconstraint\t1\tNoCoda\tNoCoda\nconstraint\t2\tMax\tMax\nconstraint\t3\tDep\tDep\ninputs\t2\ninput\t1\tpat\t3\nclass\t1.1\t1 0 0\tpat\nclass\t1.2\t0 1 0\tpa\nclass\t1.3\t0 0 1\tpa.ti\ninput\t2\ttak\t3\nclass\t2.1\t1 0 0\ttak\nclass\t2.2\t0 1 0\tta\nclass\t2.3\t0 0 1\tta.ki\nwinner\t1\t1\nwinner\t2\t2\ncontradiction\tLLe\t1:1>2 2:2>1\nend\n"
 unfolding contradiction_report head digits
 contradiction_of_codas = refl
+
+-- each choice of two different classes is a cut of its own
+pub typology_of_codas : typology_report codas (problem_of codas)
+    ((0 ∷ 0 ∷ [], 2 ∷ 1 ∷ 1 ∷ []) ∷ (1 ∷ 1 ∷ [], 1 ∷ 2 ∷ 1 ∷ []) ∷ (2 ∷ 2 ∷ [], 1 ∷ 1 ∷ 2 ∷ []) ∷ [])
+    ((against 0 0 1 ∷ against 1 1 0 ∷ []) ∷ (against 0 0 2 ∷ against 1 2 0 ∷ []) ∷ (against 0 1 0 ∷ against 1 0 1 ∷ [])
+    ∷ (against 0 1 2 ∷ against 1 2 1 ∷ []) ∷ (against 0 2 0 ∷ against 1 0 2 ∷ []) ∷ (against 0 2 1 ∷ against 1 1 2 ∷ []) ∷ [])
+    ((0 ∷ 1 ∷ [], 0) ∷ (0 ∷ 2 ∷ [], 1) ∷ (1 ∷ 0 ∷ [], 2) ∷ (1 ∷ 2 ∷ [], 3) ∷ (2 ∷ 0 ∷ [], 4) ∷ (2 ∷ 1 ∷ [], 5) ∷ [])
+    ≡ codes "otsoft report 1\ttypology\nconstraints\t3\nconstraint\t1\tNoCoda\tNoCoda\nconstraint\t2\tMax\tMax\nconstraint\t3\tDep\tDep\ninputs\t2\ninput\t1\tpat\t3\nclass\t1.1\t1 0 0\tpat\nclass\t1.2\t0 1 0\tpa\nclass\t1.3\t0 0 1\tpa.ti\ninput\t2\ttak\t3\nclass\t2.1\t1 0 0\ttak\nclass\t2.2\t0 1 0\tta\nclass\t2.3\t0 0 1\tta.ki\nlanguages\t3\nlanguage\t1\t1 1\t2 3 | 1\nlanguage\t2\t2 2\t1 3 | 2\nlanguage\t3\t3 3\t1 2 | 3\ncertificates\t6\ncertificate\t1\tLLe\t1:1>2 2:2>1\ncertificate\t2\tLeL\t1:1>3 2:3>1\ncertificate\t3\tLLe\t1:2>1 2:1>2\ncertificate\t4\teLL\t1:2>3 2:3>2\ncertificate\t5\tLeL\t1:3>1 2:1>3\ncertificate\t6\teLL\t1:3>2 2:2>3\ncuts\t6\ncut\t1\t1 2\t1\ncut\t2\t1 3\t2\ncut\t3\t2 1\t3\ncut\t4\t2 3\t4\ncut\t5\t3 1\t5\ncut\t6\t3 2\t6\nend\n"
+unfolding typology_report head digits
+typology_of_codas = refl
+
+-- a class that no ranking makes optimal, in three cuts with one certificate
+abbrev shared : Tableau
+shared = named (codes "NoCoda" ∷ codes "Max" ∷ codes "Dep" ∷ [])
+    (record { text = codes "pat"; candidates = candidate (codes "pat") 1000000000 (1 ∷ 0 ∷ 0 ∷ []) ∷ candidate (codes "pa") 0 (0 ∷ 1 ∷ 0 ∷ []) ∷ candidate (codes "pa.ti") 0 (0 ∷ 0 ∷ 1 ∷ []) ∷ [] }
+    ∷ record { text = codes "ku"; candidates = candidate (codes "ku") 1000000000 (0 ∷ 0 ∷ 0 ∷ []) ∷ candidate (codes "kut") 0 (1 ∷ 0 ∷ 0 ∷ []) ∷ [] } ∷ [])
+
+pub typology_of_shared : typology_report shared (problem_of shared)
+    ((0 ∷ 0 ∷ [], 2 ∷ 1 ∷ 1 ∷ []) ∷ (1 ∷ 0 ∷ [], 1 ∷ 2 ∷ 1 ∷ []) ∷ (2 ∷ 0 ∷ [], 1 ∷ 1 ∷ 2 ∷ []) ∷ [])
+    ((against 1 1 0 ∷ []) ∷ [])
+    ((0 ∷ 1 ∷ [], 0) ∷ (1 ∷ 1 ∷ [], 0) ∷ (2 ∷ 1 ∷ [], 0) ∷ [])
+    ≡ codes "otsoft report 1\ttypology\nconstraints\t3\nconstraint\t1\tNoCoda\tNoCoda\nconstraint\t2\tMax\tMax\nconstraint\t3\tDep\tDep\ninputs\t2\ninput\t1\tpat\t3\nclass\t1.1\t1 0 0\tpat\nclass\t1.2\t0 1 0\tpa\nclass\t1.3\t0 0 1\tpa.ti\ninput\t2\tku\t2\nclass\t2.1\t0 0 0\tku\nclass\t2.2\t1 0 0\tkut\nlanguages\t3\nlanguage\t1\t1 1\t2 3 | 1\nlanguage\t2\t2 1\t1 3 | 2\nlanguage\t3\t3 1\t1 2 | 3\ncertificates\t1\ncertificate\t1\tLee\t2:2>1\ncuts\t3\ncut\t1\t1 2\t1\ncut\t2\t2 2\t1\ncut\t3\t3 2\t1\nend\n"
+unfolding typology_report head digits
+typology_of_shared = refl
+
+-- without refuted choices there are no certificates and no cuts
+pub languages_alone : typology_report alone (problem_of alone) ((0 ∷ [], 1 ∷ 1 ∷ 1 ∷ []) ∷ []) [] [] ≡ codes "otsoft report 1\ttypology\nconstraints\t3\nconstraint\t1\tNC\tNoCoda\nconstraint\t2\tMx\tMax\nconstraint\t3\tDp\tDep\ninputs\t1\ninput\t1\tx\t1\nclass\t1.1\t0 0 0\tx\nlanguages\t1\nlanguage\t1\t1\t1 2 3\ncertificates\t0\ncuts\t0\nend\n"
+unfolding typology_report head digits
+languages_alone = refl
+
+-- the dash of the empty prefix
+pub cut_of_the_empty_prefix : cut_line 2 ([], 4) ≡ codes "cut\t2\t-\t5\n"
+unfolding digits
+cut_of_the_empty_prefix = refl

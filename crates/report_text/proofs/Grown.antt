@@ -1,7 +1,7 @@
 -- Texts that grow by the pieces of a list's items, one more item at a time.
-use Rattle.std.proofs.Common.{◌≡◌, ℕ, ◌+◌, ◌<◌, List, [], ◌∷◌, ◌++◌, length, get_or, take, map, filter, Bool, true, false, cond, flat_map, arith, refl, ap}
+use Rattle.std.proofs.Common.{◌≡◌, ℕ, ◌+◌, ◌<◌, List, [], ◌∷◌, ◌++◌, length, get_or, take, map, filter, Bool, true, false, cond, flat_map, arith, refl, sym, ◌∙◌, ap}
 use Rattle.std.specs.List.{enumerate_from, zip}
-use Rattle.std.proofs.lemmas.List.{take_more, length-take-le, append-nil, map-append}
+use Rattle.std.proofs.lemmas.List.{take_more, length-take-le, append-nil, map-append, length-map, get_or-map}
 use Rattle.std.proofs.lemmas.List.Concat.{flat_map-append}
 use Rattle.std.proofs.lemmas.List.Elements.{filter_more}
 use Rattle.std.proofs.lemmas.Slice.Zip.{length-zip, get_or-zip}
@@ -21,6 +21,11 @@ numbered_from {X} n f xs k x d below here =
 -- items that are numbered from 1 on
 pub numbered_more : {X : Type 0} (f : ℕ × X → List ℕ) (xs : List X) (k : ℕ) (x d : X) → k < length xs → x ≡ get_or xs k d → flat_map f (enumerate_from 1 (take (k + 1) xs)) ≡ flat_map f (enumerate_from 1 (take k xs)) ++ f (k + 1, x)
 numbered_more f xs k x d below here = numbered_from 1 f xs k x d below here
+
+-- items that are numbered from 1 on, each by a part of it
+pub numbered_parts_more : {X Y : Type 0} (f : ℕ × Y → List ℕ) (part : X → Y) (xs : List X) (k : ℕ) (x : X) → k < length xs → x ≡ get_or xs k x → flat_map f (enumerate_from 1 (take (k + 1) (map part xs))) ≡ flat_map f (enumerate_from 1 (take k (map part xs))) ++ f (k + 1, part x)
+numbered_parts_more f part xs k x below here =
+    numbered_more f (map part xs) k (part x) (part x) (omega (arith, length-map xs part)) (ap part here ∙ sym (get_or-map part xs k x (part x) below))
 
 -- items that are numbered from 0 on
 pub counted_more : {X : Type 0} (f : ℕ × X → List ℕ) (xs : List X) (k : ℕ) (x d : X) → k < length xs → x ≡ get_or xs k d → flat_map f (enumerate_from 0 (take (k + 1) xs)) ≡ flat_map f (enumerate_from 0 (take k xs)) ++ f (k, x)

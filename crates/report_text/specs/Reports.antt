@@ -1,4 +1,4 @@
--- The texts of reports: what every report begins with, and the reports of one ranking of the winners.
+-- The texts of reports: what every report begins with, the reports of one ranking of the winners, and that of a typology.
 use Rattle.std.specs.Prelude.{ℕ, ◌+◌, Bool, true, false, not, List, [], ◌∷◌, ◌++◌, map, length, slice_index, slice_index_or, decimal, codes, flat_map, filter, find, ◌==◌, Option, Some, None, if◌then◌else◌}
 use Rattle.std.specs.List.{enumerate_from, zip, range_with_len}
 use Rattle.std.specs.Option.{option_map_or}
@@ -8,7 +8,7 @@ use Rattle.ot_theory.specs.Conditions.{fusion}
 use Rattle.ot_theory.specs.Hierarchies.{in_stratum, order_along}
 use Rattle.ot_theory.specs.Languages.{Term, condition_of}
 use Rattle.ot_theory.specs.Problems.{Problem, Input, same_profile}
-use Rattle.report_text.specs.Spelling.{line, spaced, stratum, stratum_count, winner, marks, terms}
+use Rattle.report_text.specs.Spelling.{line, spaced, stratum, stratum_count, hierarchy, prefix, winner, marks, terms}
 
 abbrev pub title : List ℕ → List ℕ
 title command = line (codes "otsoft report 1" ∷ command ∷ [])
@@ -113,4 +113,42 @@ contradiction_report command tableau problem list =
     head command tableau problem
     ++ winner_lines problem
     ++ contradiction_line problem list
+    ++ line (codes "end" ∷ [])
+
+-- the line of a language, a choice beside its hierarchy
+abbrev pub language_line : ℕ → List ℕ × List ℕ → List ℕ
+language_line k language = line (codes "language" ∷ decimal k ∷ prefix language.0 ∷ hierarchy language.1 ∷ [])
+
+-- the number of languages, and a line for each
+abbrev pub language_lines : List (List ℕ × List ℕ) → List ℕ
+language_lines languages =
+    line (codes "languages" ∷ decimal (length languages) ∷ []) ++ flat_map (λ (k, language). language_line k language) (enumerate_from 1 languages)
+
+-- the line of a certificate: the fusion of the conditions of its terms, and the terms
+abbrev pub certificate_line : Problem → ℕ → List Term → List ℕ
+certificate_line problem k list =
+    line (codes "certificate" ∷ decimal k ∷ marks (fusion problem.constraints (map (condition_of problem) list)) ∷ terms list ∷ [])
+
+-- the number of certificates, and a line for each
+abbrev pub certificate_lines : Problem → List (List Term) → List ℕ
+certificate_lines problem certificates =
+    line (codes "certificates" ∷ decimal (length certificates) ∷ [])
+    ++ flat_map (λ (k, list). certificate_line problem k list) (enumerate_from 1 certificates)
+
+-- the line of a cut, a prefix beside the place of its certificate, which is counted from 1 here
+abbrev pub cut_line : ℕ → List ℕ × ℕ → List ℕ
+cut_line k cut = line (codes "cut" ∷ decimal k ∷ prefix cut.0 ∷ decimal (cut.1 + 1) ∷ [])
+
+-- the number of cuts, and a line for each
+abbrev pub cut_lines : List (List ℕ × ℕ) → List ℕ
+cut_lines cuts = line (codes "cuts" ∷ decimal (length cuts) ∷ []) ++ flat_map (λ (k, cut). cut_line k cut) (enumerate_from 1 cuts)
+
+-- The report of a typology: its languages, each a choice beside its hierarchy, its certificates, and its cuts, each a
+-- prefix beside the place of its certificate.
+unfoldable pub typology_report : Tableau → Problem → List (List ℕ × List ℕ) → List (List Term) → List (List ℕ × ℕ) → List ℕ
+typology_report tableau problem languages certificates cuts =
+    head (codes "typology") tableau problem
+    ++ language_lines languages
+    ++ certificate_lines problem certificates
+    ++ cut_lines cuts
     ++ line (codes "end" ∷ [])

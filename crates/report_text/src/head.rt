@@ -13,7 +13,7 @@ use violation_profiles::Problem;
 
 /// What stands in the report of a command before the part that is its own: the title, the constraints with their
 /// abbreviations and names, and the inputs, each with its classes, their profiles and the texts of their members.
-pub fn put_head(
+pub(crate) fn put_head(
     text: &mut Text,
     command: &[u8],
     tableau: &Tableau,

@@ -10,7 +10,7 @@ use erc_vectors::{ConId, NoMemory, Strata};
 use ot_base::Label;
 
 /// The strata from the highest on, with a bar between each two. In each stand the numbers of its constraints, ascending.
-pub fn put_hierarchy(text: &mut Text, strata: &Strata) -> Result<(), NoMemory>
+pub(crate) fn put_hierarchy(text: &mut Text, strata: &Strata) -> Result<(), NoMemory>
     ensures { OnOk result (text.new ≡ text.old ++ hierarchy strata.now) }
 {
     for above in 0..greatest_level(strata) {

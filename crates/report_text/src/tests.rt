@@ -1,10 +1,10 @@
-ghost use Rattle.std.specs.Prelude.{◌≡◌, length, IfOk};
+ghost use Rattle.std.specs.Prelude.{◌≡◌, ◌<◌, length, IfOk, All};
 ghost use Rattle.ot_base.specs.Acceptable.{IsRow, AreRows, IsAcceptable};
 
-use crate::{contradiction_text, rank_text};
+use crate::{contradiction_text, rank_text, typology_text};
 use erc_vectors::{List, NoMemory, Strata};
 use ot_base::{CandidateRow, ClassId, InId, InputRows, Label, Tableau};
-use refutation::{Contradiction, Term, is_genuine};
+use refutation::{Contradiction, Cut, Language, Prefix, Term, Typology, is_genuine};
 use std::alloc::Global;
 use std::process::Abort;
 use std::test::Fail;
@@ -18,6 +18,9 @@ const UNCOUNTED_REPORT: &str =
 
 const CODAS_REPORT: &str =
     "otsoft report 1\thasse\nconstraints\t3\nconstraint\t1\tNoCoda\tNoCoda\nconstraint\t2\tMax\tMax\nconstraint\t3\tDep\tDep\ninputs\t2\ninput\t1\tpat\t2\nclass\t1.1\t1 0 0\tpat\nclass\t1.2\t0 1 0\tpa\ninput\t2\ttak\t2\nclass\t2.1\t1 0 0\ttak\nclass\t2.2\t0 1 0\tta\nwinner\t1\t1\nwinner\t2\t2\ncontradiction\tLLe\t1:1>2 2:2>1\nend\n";
+
+const SHARED_REPORT: &str =
+    "otsoft report 1\ttypology\nconstraints\t3\nconstraint\t1\tNoCoda\tNoCoda\nconstraint\t2\tMax\tMax\nconstraint\t3\tDep\tDep\ninputs\t2\ninput\t1\tpat\t2\nclass\t1.1\t1 0 0\tpat\nclass\t1.2\t0 1 0\tpa\ninput\t2\tku\t2\nclass\t2.1\t0 0 0\tku\nclass\t2.2\t1 0 0\tkut\nlanguages\t2\nlanguage\t1\t1 1\t2 3 | 1\nlanguage\t2\t2 1\t1 3 | 2\ncertificates\t1\ncertificate\t1\tLee\t2:2>1\ncuts\t2\ncut\t1\t1 2\t1\ncut\t2\t2 2\t1\nend\n";
 
 /// A candidate's text, its count and its violations of three constraints.
 type Row = (&'static str, u64, [u8; 3]);
@@ -143,5 +146,70 @@ fn terms_that_no_ranking_keeps(rt: HostRuntime) -> Result<(), Fail> {
     assert!(rt; genuine);
     let report = contradiction_text(rt.alloc(), &tableau, &problem, "hasse", &found)?;
     assert!(rt; report.bytes() == CODAS_REPORT.as_bytes());
+    Ok(())
+}
+
+fn prefix(alloc: Global, classes: &[u16; 2]) -> Result<Prefix, NoMemory> {
+    let first = Prefix::empty(alloc).child(alloc, ClassId(classes[0]))?;
+    first.child(alloc, ClassId(classes[1]))
+}
+
+fn language(
+    rt: &impl Abort,
+    alloc: Global,
+    choice: &[u16; 2],
+    levels: &[u8; 3],
+) -> Result<Language, NoMemory> {
+    Ok(Language {
+        choice: prefix(alloc, choice)?,
+        strata: strata(rt, levels),
+    })
+}
+
+fn cuts(alloc: Global, prefixes: &[[u16; 2]; 2]) -> Result<List<Cut>, NoMemory>
+    ensures { IfOk result (λ cuts. All (λ cut. cut.certificate < 1) cuts) }
+{
+    let mut cuts = List::new(alloc);
+    for classes in prefixes {
+        cuts.push(Cut {
+            prefix: prefix(alloc, classes)?,
+            certificate: 0,
+        })?;
+    }
+    Ok(cuts)
+}
+
+/// A class that no ranking makes optimal, in two cuts with one certificate.
+#[test]
+fn a_certificate_that_two_cuts_name(rt: HostRuntime) -> Result<(), Fail> {
+    let names = ["NoCoda", "Max", "Dep"];
+    let inputs = [
+        ("pat", [("pat", 1, [1, 0, 0]), ("pa", 0, [0, 1, 0])]),
+        ("ku", [("ku", 1, [0, 0, 0]), ("kut", 0, [1, 0, 0])]),
+    ];
+    let alloc = rt.alloc();
+    let tableau = tableau(alloc, &names, &names, &inputs)?;
+    let problem = Problem::of(alloc, &tableau)?;
+    let mut terms = List::new(alloc);
+    terms.push(Term {
+        input: InId(1),
+        winner: ClassId(1),
+        loser: ClassId(0),
+    })?;
+    let certificate = Contradiction { terms };
+    let genuine = is_genuine(&problem, &certificate);
+    assert!(rt; genuine);
+    let mut languages = List::new(alloc);
+    languages.push(language(&rt, alloc, &[0, 0], &[2, 1, 1])?)?;
+    languages.push(language(&rt, alloc, &[1, 0], &[1, 2, 1])?)?;
+    let mut certificates = List::new(alloc);
+    certificates.push(certificate)?;
+    let typology = Typology {
+        languages,
+        cuts: cuts(alloc, &[[0, 1], [1, 1]])?,
+        certificates,
+    };
+    let report = typology_text(alloc, &tableau, &problem, &typology)?;
+    assert!(rt; report.bytes() == SHARED_REPORT.as_bytes());
     Ok(())
 }

@@ -12,7 +12,7 @@ use std::marker::Model;
 /// A text of bytes that grows at its end. It keeps the allocator that it was made with. After a call that finds no memory it
 /// may hold a part of what was to be written.
 #[derive(Debug, Drop)]
-pub struct Text {
+pub(crate) struct Text {
     bytes: Vec<u8>,
 }
 
@@ -26,7 +26,7 @@ impl Model for Text {
 
 impl Text {
     /// The empty text, which takes no memory yet.
-    pub fn new(alloc: Global) -> Text
+    pub(crate) fn new(alloc: Global) -> Text
         ensures { result ≡ [] }
     {
         Text {
@@ -34,22 +34,15 @@ impl Text {
         }
     }
 
-    /// The bytes, in order.
-    pub fn bytes(&self) -> &[u8]
-        ensures { result.now ≡ self.now }
-    {
-        self.bytes.as_slice()
-    }
-
     /// The text itself as a label, without a copy.
-    pub fn into_label(self) -> Label
+    pub(crate) fn into_label(self) -> Label
         ensures { result ≡ self }
     {
         Label::from_vec(self.bytes)
     }
 
     /// The bytes behind the others.
-    pub fn put(&mut self, bytes: &[u8]) -> Result<(), NoMemory>
+    pub(crate) fn put(&mut self, bytes: &[u8]) -> Result<(), NoMemory>
         ensures { OnOk result (self.new ≡ self.old ++ bytes.now) }
     {
         match self.bytes.extend_from_slice(bytes) {
@@ -59,7 +52,7 @@ impl Text {
     }
 
     /// A number in decimal.
-    pub fn number(&mut self, n: usize) -> Result<(), NoMemory>
+    pub(crate) fn number(&mut self, n: usize) -> Result<(), NoMemory>
         ensures { OnOk result (self.new ≡ self.old ++ decimal n) }
     {
         let mut buffer = Buffer::new();
@@ -68,14 +61,14 @@ impl Text {
     }
 
     /// What stands before an item of a list, unless it is the first.
-    pub fn separator(&mut self, first: bool, bytes: &[u8]) -> Result<(), NoMemory>
+    pub(crate) fn separator(&mut self, first: bool, bytes: &[u8]) -> Result<(), NoMemory>
         ensures { OnOk result (self.new ≡ self.old ++ (if first then [] else bytes.now)) }
     {
         if first { Ok(()) } else { self.put(bytes) }
     }
 
     /// A number of a list with a space between each two.
-    pub fn spaced_number(&mut self, first: bool, n: usize) -> Result<(), NoMemory>
+    pub(crate) fn spaced_number(&mut self, first: bool, n: usize) -> Result<(), NoMemory>
         ensures { OnOk result (self.new ≡ self.old ++ ((if first then [] else 32 ∷ []) ++ decimal n)) }
     {
         self.separator(first, b" ")?;
@@ -83,7 +76,7 @@ impl Text {
     }
 
     /// A tab and a text.
-    pub fn field(&mut self, bytes: &[u8]) -> Result<(), NoMemory>
+    pub(crate) fn field(&mut self, bytes: &[u8]) -> Result<(), NoMemory>
         ensures { OnOk result (self.new ≡ self.old ++ 9 ∷ bytes.now) }
     {
         self.put(b"\t")?;
@@ -91,7 +84,7 @@ impl Text {
     }
 
     /// A tab and a number in decimal.
-    pub fn number_field(&mut self, n: usize) -> Result<(), NoMemory>
+    pub(crate) fn number_field(&mut self, n: usize) -> Result<(), NoMemory>
         ensures { OnOk result (self.new ≡ self.old ++ 9 ∷ decimal n) }
     {
         self.put(b"\t")?;
@@ -99,7 +92,7 @@ impl Text {
     }
 
     /// A line with a word and a number.
-    pub fn count_line(&mut self, word: &[u8], n: usize) -> Result<(), NoMemory>
+    pub(crate) fn count_line(&mut self, word: &[u8], n: usize) -> Result<(), NoMemory>
         ensures { OnOk result (self.new ≡ self.old ++ line (word.now ∷ decimal n ∷ [])) }
     {
         self.put(word)?;
@@ -108,7 +101,7 @@ impl Text {
     }
 
     /// The end of a line, one byte.
-    pub fn end_line(&mut self) -> Result<(), NoMemory>
+    pub(crate) fn end_line(&mut self) -> Result<(), NoMemory>
         ensures { OnOk result (self.new ≡ self.old ++ 10 ∷ []) }
     {
         self.put(b"\n")

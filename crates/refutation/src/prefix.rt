@@ -1,0 +1,71 @@
+//! The first classes of a choice.
+
+ghost use Rattle.std.specs.Prelude.{◌≡◌, [], ◌∷◌, ◌++◌, IfOk};
+ghost use Rattle.refutation.specs.Prefixes.{class_numbers};
+
+use erc_vectors::{List, NoMemory};
+use ot_base::ClassId;
+use std::alloc::Global;
+use std::marker::Model;
+
+/// The first classes of a choice of one class for each input, in the order of the inputs: none, or all, or any number between.
+/// A contract sees it as the list of their numbers, each from 0 on.
+#[derive(Debug, Drop)]
+pub struct Prefix {
+    classes: List<ClassId>,
+}
+
+impl Model for Prefix {
+    ghost use Rattle.std.specs.Prelude.{List, ℕ};
+    ghost use Rattle.refutation.specs.Prefixes.{class_numbers};
+
+    ghost Value = { List ℕ };
+
+    ghost view = { λ prefix. class_numbers prefix.classes };
+}
+
+impl Prefix {
+    /// The prefix of no class, which takes no memory yet.
+    pub fn empty(alloc: Global) -> Prefix
+        ensures { result ≡ [] }
+    {
+        Prefix {
+            classes: List::new(alloc),
+        }
+    }
+
+    /// The classes, that of the first input first.
+    pub fn as_slice(&self) -> &[ClassId]
+        ensures { class_numbers result.now ≡ self.now }
+    {
+        self.classes.as_slice()
+    }
+
+    /// An equal prefix.
+    pub fn copy(&self, alloc: Global) -> Result<Prefix, NoMemory>
+        ensures { IfOk result (λ copy. copy ≡ self.now) }
+    {
+        Ok(Prefix {
+            classes: copied(alloc, self.classes.as_slice())?,
+        })
+    }
+
+    /// The prefix with this class of the next input behind its own.
+    pub fn child(&self, alloc: Global, c: ClassId) -> Result<Prefix, NoMemory>
+        ensures { IfOk result (λ child. child ≡ self.now ++ c.0 ∷ []) }
+    {
+        let mut classes = copied(alloc, self.classes.as_slice())?;
+        classes.push(c)?;
+        Ok(Prefix { classes })
+    }
+}
+
+fn copied(alloc: Global, classes: &[ClassId]) -> Result<List<ClassId>, NoMemory>
+    ensures { IfOk result (λ copy. copy ≡ classes.now) }
+{
+    let mut copy = List::new(alloc);
+    for class in classes {
+        copy.push(*class)?;
+    }
+    Ok(copy)
+}

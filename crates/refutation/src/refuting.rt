@@ -1,0 +1,79 @@
+//! What shows that no ranking makes the classes of a prefix optimal.
+
+ghost use Rattle.std.specs.Prelude.{◌≡◌, IfOk, IsTrue};
+ghost use Rattle.std.specs.List.{list_all};
+ghost use Rattle.ot_theory.specs.Languages.{refuted, terms_of};
+ghost use Rattle.ot_theory.specs.Refutations.{EachIsNeeded, certificate_of, is_contradiction, one_winner_each, refutes};
+ghost use Rattle.refutation.specs.Prefixes.{class_numbers, is_made};
+ghost use Rattle.refutation.specs.Terms.{are_terms, term_of, terms_in};
+ghost use Rattle.violation_profiles.specs.WellFormed.{IsPrefix};
+
+use crate::certificate::core_of;
+use crate::contradiction::Contradiction;
+use crate::term::Term;
+use crate::winners::add_terms;
+use erc_vectors::{List, NoMemory};
+use ot_base::{ClassId, InId};
+use std::alloc::Global;
+use violation_profiles::Problem;
+
+/// Each class of a prefix of the problem against each other class of its input, in order of input and then of loser. No input
+/// has two winners in them.
+pub fn terms_of(alloc: Global, p: &Problem, prefix: &[ClassId]) -> Result<List<Term>, NoMemory>
+    requires { IsPrefix p.now (class_numbers prefix.now) }
+    ensures terms { IfOk result (λ terms. terms_in terms ≡ terms_of p.now (class_numbers prefix.now)) }
+    ensures genuine { IfOk result (λ terms. IsTrue (are_terms p.now terms)) }
+    ensures one { IfOk result (λ terms. IsTrue (one_winner_each (terms_in terms))) }
+{
+    prove!(prefix.len() <= p.inputs());
+    let mut terms = List::new(alloc);
+    for (i, winner) in prefix.iter().enumerate() {
+        add_terms(&mut terms, p, InId(i as u32), *winner)?;
+    }
+    Ok(terms)
+}
+
+/// Whether a prefix makes each of the winner choices of a contradiction: of each term, it is longer than the number of the
+/// input and has the winner at this input. It takes no memory.
+pub fn refutes(c: &Contradiction, prefix: &[ClassId]) -> bool
+    ensures { result ≡ refutes (terms_in c.now.terms) (class_numbers prefix.now) }
+{
+    makes_each(prefix, c.terms.as_slice())
+}
+
+/// Whether a prefix makes the winner choice of each term.
+fn makes_each(prefix: &[ClassId], terms: &[Term]) -> bool
+    ensures { result ≡ list_all (λ term. is_made (class_numbers prefix.now) (term_of term)) terms.now }
+{
+    terms.iter().all(|term| makes(prefix, term))
+}
+
+/// Whether a prefix has the winner of a term at the input of the term.
+fn makes(prefix: &[ClassId], term: &Term) -> bool
+    ensures { result ≡ is_made (class_numbers prefix.now) (term_of term.now) }
+{
+    match prefix.get(term.input.0 as usize) {
+        Some(class) => *class == term.winner,
+        None => false,
+    }
+}
+
+/// The certificate of the terms of a prefix of the problem that holds under no ranking: what remains when each term is dropped,
+/// from the last to the first, without which no ranking keeps the others. It is a genuine contradiction that refutes the
+/// prefix, in the order of the terms, and without any one of its terms some ranking keeps the others.
+pub fn deletion_core(
+    alloc: Global,
+    p: &Problem,
+    prefix: &[ClassId],
+) -> Result<Contradiction, NoMemory>
+    requires prefix { IsPrefix p.now (class_numbers prefix.now) }
+    requires refuted { IsTrue (refuted p.now (class_numbers prefix.now)) }
+    ensures certificate { IfOk result (λ core. terms_in core.terms ≡ certificate_of p.now (terms_of p.now (class_numbers prefix.now))) }
+    ensures contradiction { IfOk result (λ core. IsTrue (is_contradiction p.now (terms_in core.terms))) }
+    ensures refutes { IfOk result (λ core. IsTrue (refutes (terms_in core.terms) (class_numbers prefix.now))) }
+    ensures needed { IfOk result (λ core. EachIsNeeded p.now (terms_in core.terms)) }
+{
+    prove!(prefix.len() <= p.inputs());
+    let terms = terms_of(alloc, p, prefix)?;
+    core_of(alloc, p, terms.as_slice())
+}

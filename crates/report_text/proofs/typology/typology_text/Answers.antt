@@ -1,0 +1,8 @@
+use Rattle.std.proofs.Common.{refl}
+use Rattle.report_text.specs.Reports.{typology_report}
+use Rattle.report_text.proofs.typology.typology_text.Goals as goal
+
+pub returns : goal.returns
+unfolding typology_report
+returns c =
+    rw (c.into_label.ensures, c.in_ok-put.ensures, c.in_ok-put_cuts.ensures, c.as_slice-3.ensures, c.in_ok-put_certificates.ensures, c.as_slice-2.ensures, c.in_ok-put_languages.ensures, c.as_slice.ensures, c.in_ok-put_head.ensures, c.new-text.ensures) refl

@@ -1,0 +1,70 @@
+//! Terms, and the fusion of their conditions.
+
+ghost use Rattle.std.specs.Prelude.{◌≡◌, ◌∷◌, [], ◌++◌, ◌<◌, length, map, IsTrue, OnOk};
+ghost use Rattle.ot_theory.specs.Conditions.{fusion};
+ghost use Rattle.ot_theory.specs.Languages.{condition_of};
+ghost use Rattle.refutation.specs.Terms.{are_terms, terms_in, term_of};
+ghost use Rattle.report_text.specs.Spelling as spelling;
+
+use crate::text::Text;
+use erc_vectors::{ConId, Condition, Mark, NoMemory};
+use refutation::{Term, fusion_of};
+use violation_profiles::Problem;
+
+/// The marks of the fusion of the terms' conditions, as a field, and the terms as another one.
+pub(crate) fn put_fused_terms(text: &mut Text, p: &Problem, terms: &[Term]) -> Result<(), NoMemory>
+    requires some { 0 < length terms.now }
+    requires terms { IsTrue (are_terms p.now terms.now) }
+    ensures { OnOk result (text.new ≡ text.old
+        ++ (9 ∷ spelling.marks (fusion p.now.constraints (map (condition_of p.now) (terms_in terms.now)))) ++ (9 ∷ spelling.terms (terms_in terms.now))) }
+{
+    let Some((first, rest)) = terms.split_first() else {
+        unreachable!()
+    };
+    text.put(b"\t")?;
+    put_marks(text, &fusion_of(p, first, rest))?;
+    text.put(b"\t")?;
+    put_terms(text, terms)
+}
+
+/// The letter of each mark, in file order.
+fn put_marks(text: &mut Text, condition: &Condition) -> Result<(), NoMemory>
+    ensures { OnOk result (text.new ≡ text.old ++ spelling.marks condition.now) }
+{
+    for c in 0..condition.width() {
+        text.put(letter(condition.mark(ConId(c as u16))))?;
+    }
+    Ok(())
+}
+
+fn letter(mark: Mark) -> &'static [u8]
+    ensures { result.now ≡ spelling.letter mark ∷ [] }
+{
+    match mark {
+        Mark::W => b"W",
+        Mark::L => b"L",
+        Mark::E => b"e",
+    }
+}
+
+/// Terms with a space between each two.
+fn put_terms(text: &mut Text, terms: &[Term]) -> Result<(), NoMemory>
+    ensures { OnOk result (text.new ≡ text.old ++ spelling.terms (terms_in terms.now)) }
+{
+    for (k, term) in terms.iter().enumerate() {
+        text.separator(k == 0, b" ")?;
+        put_term(text, term)?;
+    }
+    Ok(())
+}
+
+/// A term: its input, its winner and its loser, by their numbers from 1 on.
+fn put_term(text: &mut Text, term: &Term) -> Result<(), NoMemory>
+    ensures { OnOk result (text.new ≡ text.old ++ spelling.term (term_of term.now)) }
+{
+    text.number(term.input.0 as usize + 1)?;
+    text.put(b":")?;
+    text.number(term.winner.0 as usize + 1)?;
+    text.put(b">")?;
+    text.number(term.loser.0 as usize + 1)
+}

@@ -1,0 +1,148 @@
+//! The report of a factorial typology: its languages, and what shows that the other choices are none.
+
+ghost use Rattle.std.specs.Prelude.{◌≡◌, ◌∷◌, ◌++◌, ◌<◌, length, All, IsTrue, IfOk, OnOk};
+ghost use Rattle.ot_base.specs.Tableaus.{problem_of};
+ghost use Rattle.refutation.specs.Prefixes.{class_numbers};
+ghost use Rattle.refutation.specs.Terms.{are_terms, terms_in};
+ghost use Rattle.refutation.specs.Typologies.{found_of, cuts_of, certificates_of};
+ghost use Rattle.report_text.specs.Spelling.{prefix};
+ghost use Rattle.report_text.specs.Reports as reports;
+
+use crate::head::put_head;
+use crate::hierarchy::put_hierarchy;
+use crate::terms::put_fused_terms;
+use crate::text::Text;
+use erc_vectors::{NoMemory, Strata};
+use ot_base::{ClassId, Label, Tableau};
+use refutation::{Contradiction, Cut, Language, Term, Typology};
+use std::alloc::Global;
+use violation_profiles::Problem;
+
+/// The whole report of the command `typology`: the head, the languages, each with its classes by input and its hierarchy
+/// (Tesar and Smolensky 2000), the certificates, each with the fusion of its conditions (Prince 2002) and its terms, and the
+/// cuts, each with its classes by input and the number of its certificate.
+///
+/// `p` is the problem of `t`. Each certificate of `y` has at least one term, each of its terms is in range for `p`, with a
+/// loser other than the winner, and each cut names one of the certificates.
+pub fn typology_text(
+    alloc: Global,
+    t: &Tableau,
+    p: &Problem,
+    y: &Typology,
+) -> Result<Label, NoMemory>
+    requires poses { p.now ≡ problem_of t.now }
+    requires some_term { All (λ certificate. 0 < length certificate.terms) y.now.certificates }
+    requires terms { All (λ certificate. IsTrue (are_terms p.now certificate.terms)) y.now.certificates }
+    requires named { All (λ cut. cut.certificate < length y.now.certificates) y.now.cuts }
+    ensures { IfOk result (λ text. text
+        ≡ reports.typology_report t.now p.now (found_of y.now.languages) (certificates_of y.now.certificates) (cuts_of y.now.cuts)) }
+{
+    let mut text = Text::new(alloc);
+    put_head(&mut text, b"typology", t, p)?;
+    put_languages(&mut text, y.languages.as_slice())?;
+    put_certificates(&mut text, p, y.certificates.as_slice())?;
+    put_cuts(&mut text, y.certificates.len(), y.cuts.as_slice())?;
+    text.put(b"end\n")?;
+    Ok(text.into_label())
+}
+
+/// The number of languages, and a line for each.
+fn put_languages(text: &mut Text, languages: &[Language]) -> Result<(), NoMemory>
+    ensures { OnOk result (text.new ≡ text.old ++ reports.language_lines (found_of languages.now)) }
+{
+    text.count_line(b"languages", languages.len())?;
+    for (k, language) in languages.iter().enumerate() {
+        put_language(text, k + 1, language.choice.as_slice(), &language.strata)?;
+    }
+    Ok(())
+}
+
+/// The line of a language: its number, its classes by input, and its hierarchy.
+fn put_language(
+    text: &mut Text,
+    number: usize,
+    choice: &[ClassId],
+    strata: &Strata,
+) -> Result<(), NoMemory>
+    ensures { OnOk result (text.new ≡ text.old ++ reports.language_line number (class_numbers choice.now, strata.now)) }
+{
+    text.put(b"language")?;
+    text.number_field(number)?;
+    put_prefix(text, choice)?;
+    text.put(b"\t")?;
+    put_hierarchy(text, strata)?;
+    text.end_line()
+}
+
+/// The number of certificates, and a line for each.
+fn put_certificates(
+    text: &mut Text,
+    p: &Problem,
+    certificates: &[Contradiction],
+) -> Result<(), NoMemory>
+    requires some_term { All (λ certificate. 0 < length certificate.terms) certificates.now }
+    requires terms { All (λ certificate. IsTrue (are_terms p.now certificate.terms)) certificates.now }
+    ensures { OnOk result (text.new ≡ text.old ++ reports.certificate_lines p.now (certificates_of certificates.now)) }
+{
+    text.count_line(b"certificates", certificates.len())?;
+    for (k, certificate) in certificates.iter().enumerate() {
+        put_certificate(text, p, k + 1, certificate.terms.as_slice())?;
+    }
+    Ok(())
+}
+
+/// The line of a certificate: its number, the marks of its fusion, and its terms.
+fn put_certificate(
+    text: &mut Text,
+    p: &Problem,
+    number: usize,
+    terms: &[Term],
+) -> Result<(), NoMemory>
+    requires some { 0 < length terms.now }
+    requires terms { IsTrue (are_terms p.now terms.now) }
+    ensures { OnOk result (text.new ≡ text.old ++ reports.certificate_line p.now number (terms_in terms.now)) }
+{
+    text.put(b"certificate")?;
+    text.number_field(number)?;
+    put_fused_terms(text, p, terms)?;
+    text.end_line()
+}
+
+/// The number of cuts, each of which names one of so many certificates, and a line for each.
+fn put_cuts(text: &mut Text, certificates: usize, cuts: &[Cut]) -> Result<(), NoMemory>
+    requires { All (λ cut. cut.certificate < certificates) cuts.now }
+    ensures { OnOk result (text.new ≡ text.old ++ reports.cut_lines (cuts_of cuts.now)) }
+{
+    text.count_line(b"cuts", cuts.len())?;
+    for (k, cut) in cuts.iter().enumerate() {
+        put_cut(text, k + 1, certificates, cut)?;
+    }
+    Ok(())
+}
+
+/// The line of a cut: its number, its classes by input, and the number of its certificate, one of so many.
+fn put_cut(text: &mut Text, number: usize, certificates: usize, cut: &Cut) -> Result<(), NoMemory>
+    requires { cut.now.certificate < certificates }
+    ensures { OnOk result (text.new ≡ text.old ++ reports.cut_line number (cut.now.prefix, cut.now.certificate)) }
+{
+    prove!(cut.certificate < certificates);
+    text.put(b"cut")?;
+    text.number_field(number)?;
+    put_prefix(text, cut.prefix.as_slice())?;
+    text.number_field(cut.certificate + 1)?;
+    text.end_line()
+}
+
+/// The numbers of the classes, by input, as a field, and a dash where there are none.
+fn put_prefix(text: &mut Text, classes: &[ClassId]) -> Result<(), NoMemory>
+    ensures { OnOk result (text.new ≡ text.old ++ 9 ∷ prefix (class_numbers classes.now)) }
+{
+    if classes.is_empty() {
+        return text.field(b"-");
+    }
+    text.put(b"\t")?;
+    for (k, class) in classes.iter().enumerate() {
+        text.spaced_number(k == 0, class.0 as usize + 1)?;
+    }
+    Ok(())
+}

@@ -1,0 +1,12 @@
+pub mod Counts
+pub mod Fitting
+pub mod Reached
+pub mod Ascending
+pub mod Children
+pub mod Extensions
+pub mod Running
+pub mod Waiting
+pub mod Collected
+pub mod Named
+pub mod FromDeeds
+pub mod Levels

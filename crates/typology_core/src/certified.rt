@@ -1,0 +1,74 @@
+//! Cuts beside the certificates that they name.
+
+ghost use Rattle.std.specs.Prelude.{◌≡◌, ◌<◌, IfOk, IfSome, IfNone, OnOk, All, length, true};
+ghost use Rattle.ot_theory.specs.Languages.{refuted};
+ghost use Rattle.ot_theory.specs.Refutations.{with_certificate};
+ghost use Rattle.violation_profiles.specs.WellFormed.{IsPrefix};
+ghost use Rattle.refutation.specs.Typologies.{certificates_of, cuts_of};
+ghost use Rattle.refutation.specs.Prefixes.{class_numbers};
+ghost use Rattle.typology_core.specs.Gathered.{AreGenuine, AreNamed, IsCertified, first_refuting};
+
+use erc_vectors::{List, NoMemory};
+use ot_base::ClassId;
+use refutation::{Contradiction, Cut, Prefix, deletion_core, refutes};
+use std::alloc::Global;
+use violation_profiles::Problem;
+
+/// Each of these refuted prefixes beside the first certificate that refutes it, and the certificates, in the order in which
+/// they are first named: a prefix that no certificate before refutes adds its own.
+pub(crate) fn certified(
+    alloc: Global,
+    p: &Problem,
+    prefixes: Vec<Prefix>,
+) -> Result<(List<Cut>, List<Contradiction>), NoMemory>
+    requires prefixes { All (IsPrefix p.now) prefixes.items }
+    requires refuted { All (λ prefix. refuted p.now prefix ≡ true) prefixes.items }
+    ensures certified { IfOk result (λ named. IsCertified p.now prefixes.items (cuts_of named.0) (certificates_of named.1)) }
+    ensures genuine { IfOk result (λ named. AreGenuine p.now named.1) }
+    ensures named { IfOk result (λ named. AreNamed (length named.1) named.0) }
+{
+    let mut cuts = List::new(alloc);
+    let mut certificates = List::new(alloc);
+    for prefix in prefixes {
+        let certificate = name_certificate(alloc, p, &prefix, &mut certificates)?;
+        cuts.push(Cut {
+            prefix,
+            certificate,
+        })?;
+    }
+    Ok((cuts, certificates))
+}
+
+/// The place of the first certificate that refutes the prefix. Where none does, its own is put behind the others.
+fn name_certificate(
+    alloc: Global,
+    p: &Problem,
+    prefix: &Prefix,
+    certificates: &mut List<Contradiction>,
+) -> Result<usize, NoMemory>
+    requires prefix { IsPrefix p.now prefix.now }
+    requires refuted { refuted p.now prefix.now ≡ true }
+    requires genuine { AreGenuine p.now certificates.old }
+    ensures genuine { OnOk result (AreGenuine p.now certificates.new) }
+    ensures listed { OnOk result (certificates_of certificates.new ≡ with_certificate p.now (certificates_of certificates.old) prefix.now) }
+    ensures first { IfOk result (λ place. place ≡ first_refuting (certificates_of certificates.new) prefix.now) }
+    ensures within { IfOk result (λ place. place < length certificates.new) }
+{
+    let classes = prefix.as_slice();
+    if let Some(place) = place_of(certificates.as_slice(), classes) {
+        return Ok(place);
+    }
+    let place = certificates.len();
+    certificates.push(deletion_core(alloc, p, classes)?)?;
+    Ok(place)
+}
+
+/// The place of the first contradiction that refutes a prefix.
+fn place_of(certificates: &[Contradiction], prefix: &[ClassId]) -> Option<usize>
+    ensures some { IfSome result (λ place. (place ≡ first_refuting (certificates_of certificates.now) (class_numbers prefix.now)) × (place < length certificates.now)) }
+    ensures none { IfNone result (first_refuting (certificates_of certificates.now) (class_numbers prefix.now) ≡ length certificates.now) }
+{
+    certificates
+        .iter()
+        .position(|certificate| refutes(certificate, prefix))
+}

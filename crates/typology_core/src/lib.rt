@@ -1,0 +1,29 @@
+//! What the deeds of a search give: from honest and balanced ones, the typology of a problem.
+//!
+//! A search opens prefixes of choices, finds languages and cuts refuted prefixes off, in whatever order. Its deeds say which.
+//! They are honest where each is true of its prefix, and balanced where their prefixes are the empty one and the children of
+//! each opened one, each as often. Such deeds tell all languages, that is all choices that some ranking makes optimal
+//! (factorial typology, after Prince and Smolensky), each with its least hierarchy (Tesar and Smolensky, Learnability in
+//! Optimality Theory, 2000), and all shortest refuted prefixes, each with a contradiction that shows it (Prince, Entailed
+//! Ranking Arguments, 2002). The deeds, the cuts and the list of certificates are this project's own, and so is the search of
+//! one worker, which opens the shorter prefixes first and keeps what it learns of refuted ones.
+#![tactic(auto)]
+
+mod certified;
+mod deed;
+mod finding;
+mod gathering;
+mod lexicographic;
+mod search;
+#[cfg(test)]
+mod search_tests;
+mod shared;
+#[cfg(test)]
+mod tests;
+mod told;
+mod worker;
+
+pub use deed::{Deed, Deeds, Fate};
+pub use gathering::gather;
+pub use search::{Alone, PLACE_LIMIT, search_alone};
+pub use shared::deeds_go;

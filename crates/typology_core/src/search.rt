@@ -1,0 +1,54 @@
+//! The search of one worker.
+
+ghost use Rattle.std.specs.Prelude.{◌≡◌, ◌≤◌, IfOk, length, map};
+ghost use Rattle.ot_theory.specs.Languages.{IsTypology};
+ghost use Rattle.ot_theory.specs.Refutations.{certificate_named, certificates, cuts};
+ghost use Rattle.refutation.specs.Typologies.{certificates_of, cuts_of, found_of};
+ghost use Rattle.typology_core.specs.Gathered.{AreGenuine, AreNamed};
+ghost use Rattle.typology_core.specs.declared.search.TheConstants.{PLACE_LIMIT};
+
+use crate::gathering::gather;
+use crate::worker::Worker;
+use erc_vectors::NoMemory;
+use refutation::Typology;
+use std::alloc::Global;
+use std::slice::from_ref;
+use violation_profiles::Problem;
+
+/// The greatest number of places for contradictions that a search may have.
+pub const PLACE_LIMIT: usize = 4_096;
+
+/// What a search of one worker comes to: the typology, and how often it judged a prefix by demotion, which stays at 2^64 - 1
+/// once it is there.
+#[derive(Debug, Drop)]
+pub struct Alone {
+    pub typology: Typology,
+    pub learns: u64,
+}
+
+/// The typology of a problem, found by one worker with at most 4,096 places for contradictions: its languages, each with its least
+/// hierarchy (Tesar and Smolensky 2000), and its cuts, each with a certificate (Prince 2002), as `gather` gives them.
+///
+/// Prefixes wait in a queue, first in, first out, at first the empty one alone. Each is cut off by the first contradiction
+/// among those kept that refutes it. Where there is none it is judged by demotion, and the certificate of a refuted one is kept
+/// if there is a place left. The children of a prefix that holds and is no full choice wait behind the others. The number of
+/// places changes how often demotion judges, and nothing else.
+pub fn search_alone(alloc: Global, p: &Problem, places: usize) -> Result<Alone, NoMemory>
+    requires { places ≤ PLACE_LIMIT }
+    ensures languages { IfOk result (λ alone. IsTypology p.now (found_of alone.typology.languages)) }
+    ensures cuts { IfOk result (λ alone. cuts_of alone.typology.cuts ≡ map (λ cut. (cut, certificate_named p.now cut)) (cuts p.now)) }
+    ensures certificates { IfOk result (λ alone. certificates_of alone.typology.certificates ≡ certificates p.now) }
+    ensures genuine { IfOk result (λ alone. AreGenuine p.now alone.typology.certificates) }
+    ensures named { IfOk result (λ alone. AreNamed (length alone.typology.certificates) alone.typology.cuts) }
+{
+    let mut worker = Worker::start(alloc)?;
+    while let Some(prefix) = worker.take() {
+        let finding = worker.find(alloc, p, places, &prefix)?;
+        worker.settle(alloc, p, prefix, finding)?;
+    }
+    let typology = gather(alloc, p, from_ref(&worker.deeds))?;
+    Ok(Alone {
+        typology,
+        learns: worker.learns,
+    })
+}

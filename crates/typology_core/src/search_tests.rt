@@ -1,0 +1,143 @@
+ghost use Rattle.std.specs.Prelude.{◌≡◌, ◌≤◌, length, IfOk};
+ghost use Rattle.ot_base.specs.Acceptable.{IsRow, AreRows};
+
+use crate::tests::shown;
+use crate::{PLACE_LIMIT, search_alone};
+use erc_vectors::{List, NoMemory};
+use ot_base::{CandidateRow, InputRows, Label, Tableau};
+use std::alloc::Global;
+use std::process::Abort;
+use std::test::Fail;
+use violation_profiles::Problem;
+
+/// Three candidates of each of two inputs, with their violations of four constraints, of which the first ones count.
+type Violations = [[[u8; 4]; 3]; 2];
+
+/// Two inputs that are repaired alike.
+const TWO_CODAS: Violations = [
+    [[1, 0, 0, 0], [0, 1, 0, 0], [0, 0, 1, 0]],
+    [[1, 0, 0, 0], [0, 1, 0, 0], [0, 0, 1, 0]],
+];
+
+/// One class of the second input violates more than the other, and nothing less.
+const BOUNDED: Violations = [
+    [[1, 0, 0, 0], [0, 1, 0, 0], [0, 0, 1, 0]],
+    [[0, 0, 0, 0], [1, 0, 0, 0], [1, 0, 0, 0]],
+];
+
+/// Basic syllable structure.
+const SYLLABLES: Violations = [
+    [[1, 0, 0, 0], [0, 0, 0, 1], [0, 0, 1, 0]],
+    [[0, 1, 0, 0], [0, 0, 0, 1], [0, 0, 1, 0]],
+];
+
+/// The last choice is refuted by what an earlier one teaches, and has another certificate of its own.
+const OTHER_CERTIFICATE: Violations = [
+    [[1, 0, 1, 0], [0, 1, 0, 0], [1, 0, 0, 1]],
+    [[1, 0, 0, 0], [0, 0, 0, 0], [0, 1, 0, 0]],
+];
+
+fn row(alloc: Global, n: usize, marks: &[u8; 4]) -> Result<CandidateRow, NoMemory>
+    requires { n ≤ 4 }
+    ensures { IfOk result (λ row. IsRow n row) }
+{
+    let mut violations = List::new(alloc);
+    for violation in &marks[..n] {
+        violations.push(u32::from(*violation))?;
+    }
+    Ok(CandidateRow {
+        text: Label::of(alloc, b"")?,
+        count: 0,
+        violations,
+        line: 3,
+    })
+}
+
+fn input(alloc: Global, n: usize, rows: &[[u8; 4]; 3]) -> Result<InputRows, NoMemory>
+    requires { n ≤ 4 }
+    ensures { IfOk result (λ input. AreRows n input) }
+{
+    let mut candidates = List::new(alloc);
+    for marks in rows {
+        candidates.push(row(alloc, n, marks)?)?;
+    }
+    Ok(InputRows {
+        text: Label::of(alloc, b"")?,
+        candidates,
+    })
+}
+
+fn names(alloc: Global, n: usize) -> Result<List<Label>, NoMemory>
+    ensures { IfOk result (λ names. length names ≡ n) }
+{
+    let mut names = List::new(alloc);
+    for _ in 0..n {
+        names.push(Label::of(alloc, b"")?)?;
+    }
+    Ok(names)
+}
+
+fn problem(alloc: Global, n: usize, violations: &Violations) -> Result<Problem, NoMemory>
+    requires some { 1 ≤ n }
+    requires few { n ≤ 4 }
+{
+    let mut inputs = List::new(alloc);
+    inputs.push(input(alloc, n, &violations[0])?)?;
+    inputs.push(input(alloc, n, &violations[1])?)?;
+    let tableau = Tableau {
+        names: names(alloc, n)?,
+        abbrevs: names(alloc, n)?,
+        inputs,
+    };
+    Problem::of(alloc, &tableau)
+}
+
+/// Whether a search with some number of places comes to this typology, and judges by demotion so often.
+fn finds(
+    rt: &impl Abort,
+    alloc: Global,
+    problem: &Problem,
+    typology: &str,
+    learns: &[(usize, u64)],
+) -> Result<(), Fail> {
+    for (places, times) in learns {
+        let alone = search_alone(alloc, problem, (*places).min(PLACE_LIMIT))?;
+        let text = shown(alloc, &alone.typology)?;
+        assert_eq!(rt; text.as_str(), typology);
+        assert_eq!(rt; alone.learns, *times, "{typology}");
+    }
+    Ok(())
+}
+
+#[test]
+fn typologies_with_any_number_of_places(rt: HostRuntime) -> Result<(), Fail> {
+    let alloc = rt.alloc();
+    finds(
+        &rt,
+        alloc,
+        &problem(alloc, 3, &TWO_CODAS)?,
+        "1 1 211\n2 2 121\n3 3 112\n1 2 #1\n1 3 #2\n2 1 #3\n2 3 #4\n3 1 #5\n3 2 #6\n1:1>2 2:2>1 \n1:1>3 2:3>1 \n1:2>1 2:1>2 \n1:2>3 2:3>2 \n1:3>1 2:1>3 \n1:3>2 2:2>3 \n",
+        &[(0, 13), (1, 13), (16, 13)],
+    )?;
+    finds(
+        &rt,
+        alloc,
+        &problem(alloc, 3, &BOUNDED)?,
+        "1 1 211\n2 1 121\n3 1 112\n1 2 #1\n2 2 #1\n3 2 #1\n2:2>1 \n",
+        &[(0, 10), (1, 8), (16, 8)],
+    )?;
+    finds(
+        &rt,
+        alloc,
+        &problem(alloc, 4, &SYLLABLES)?,
+        "1 1 2211\n1 2 3112\n1 3 3121\n2 1 1312\n2 2 1112\n3 1 1321\n3 3 1121\n2 3 #1\n3 2 #2\n1:2>3 2:3>2 \n1:3>2 2:2>3 \n",
+        &[(0, 13), (1, 13), (16, 13)],
+    )?;
+    finds(
+        &rt,
+        alloc,
+        &problem(alloc, 4, &OTHER_CERTIFICATE)?,
+        "1 2 2121\n2 2 1211\n3 2 2112\n1 1 #1\n1 3 #2\n2 1 #1\n2 3 #3\n3 1 #1\n3 3 #3\n2:1>2 \n1:1>2 2:3>1 \n2:3>2 \n",
+        &[(0, 13), (1, 11), (16, 10)],
+    )
+}
