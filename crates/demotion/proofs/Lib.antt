@@ -1,2 +1,3 @@
 pub mod Stratum
 pub mod Opened
+pub mod Masked

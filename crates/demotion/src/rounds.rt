@@ -1,12 +1,13 @@
-//! Demotion in rounds, with the stratum numbers as its only state: 0 for a constraint
-//! that is not placed yet. So a condition is closed where a constraint with W is placed.
+//! Demotion in rounds, with the stratum numbers as its state, 0 for a constraint that is not placed yet, and the placed
+//! constraints as the bits of a mask. So a condition is closed where it has a W in common with that mask.
 
-ghost use Rattle.std.specs.Prelude.{◌≡◌, ◌+◌, ◌<◌, ◌≤◌, ◌||◌, true, false, length, slice_index, slice_index_or, EachIndex, All, Contains};
+ghost use Rattle.std.specs.Prelude.{◌≡◌, ℕ, ◌+◌, ◌<◌, ◌≤◌, true, false, length, slice_index, EachIndex, All, Contains, if◌then◌else◌};
+ghost use Rattle.std.specs.Int.{bit_at};
 ghost use Rattle.ot_theory.specs.Rankings.{count_of};
-ghost use Rattle.ot_theory.specs.Conditions.{is_loss, mark_at};
 ghost use Rattle.ot_theory.specs.Hierarchies.{IsLeastHierarchy};
 ghost use Rattle.ot_theory.specs.Demotion.{is_closed, is_blocked, level_after, open_positions, AreLeftOpen};
 ghost use Rattle.ot_theory.specs.Refutations.{no_ranking_keeps};
+ghost use Rattle.demotion.specs.Placed.{levels_of, has_bit};
 
 use erc_vectors::{ConId, Condition, LIMIT, Mark};
 
@@ -20,26 +21,27 @@ pub(crate) fn place_in_rounds(levels: &mut [u8], set: &[Condition])
     ensures left_open { Contains levels.new 0 → AreLeftOpen (length levels.old) set.now (open_positions levels.new set.now) }
 {
     let mut left = levels.len();
+    let mut placed = 0;
     for round in 0..levels.len() {
-        let blocked = blocked_by(levels, set);
-        let placed = place_free(levels, &blocked, round as u8 + 1);
-        left -= placed;
-        if placed == 0 || left == 0 {
+        let blocked = blocked_by(placed, set);
+        let count = place_free(levels, blocked, round as u8 + 1);
+        left -= count;
+        if count == 0 || left == 0 {
             return;
         }
+        placed |= !blocked;
     }
 }
 
-/// Whether an open condition has L, for each constraint.
-fn blocked_by(levels: &[u8], set: &[Condition]) -> [bool; LIMIT]
-    requires small { length levels.now ≤ LIMIT }
-    requires widths { All (λ marks. length marks ≡ length levels.now) set.now }
-    ensures { EachIndex levels.now (λ c. slice_index_or result c false ≡ is_blocked levels.now set.now c) }
+/// The constraints at which a condition has L of whose W's none is placed.
+fn blocked_by(placed: u64, set: &[Condition]) -> u64
+    requires { All (λ marks. length marks ≤ LIMIT) set.now }
+    ensures { (c : ℕ) → bit_at result c ≡ (if is_blocked (levels_of placed) set.now c then 1 else 0) }
 {
-    let mut blocked = [false; LIMIT];
+    let mut blocked = 0;
     for condition in set {
-        if !is_closed(levels, condition) {
-            block_losses(&mut blocked, condition);
+        if condition.w_mask() & placed == 0 {
+            blocked |= condition.l_mask();
         }
     }
     blocked
@@ -59,31 +61,28 @@ pub(crate) fn is_closed(levels: &[u8], condition: &Condition) -> bool
     false
 }
 
-fn block_losses(blocked: &mut [bool], condition: &Condition)
-    requires { length condition.now ≤ length blocked.old }
-    ensures { EachIndex blocked.new (λ c. slice_index_or blocked.new c false ≡ (slice_index_or blocked.old c false || is_loss (mark_at condition.now c))) }
-{
-    for k in 0..condition.width() {
-        if condition.mark(ConId(k as u16)) == Mark::L {
-            blocked[k] = true;
-        }
-    }
-}
-
 /// Gives the free constraints that are not placed this number, and answers how many there were.
-fn place_free(levels: &mut [u8], blocked: &[bool], given: u8) -> usize
-    requires within { length levels.old ≤ length blocked.now }
+fn place_free(levels: &mut [u8], blocked: u64, given: u8) -> usize
+    requires within { length levels.old ≤ LIMIT }
     requires some { 0 < given }
-    ensures each { EachIndex levels.new (λ c. slice_index levels.new c ≡ level_after (slice_index levels.old c) (slice_index_or blocked.now c false) given) }
+    ensures each { EachIndex levels.new (λ c. slice_index levels.new c ≡ level_after (slice_index levels.old c) (has_bit blocked c) given) }
     ensures counted { count_of 0 levels.new + result ≡ count_of 0 levels.old }
     ensures idle { result ≡ 0 → levels.new ≡ levels.old }
 {
     let mut placed = 0;
     for k in 0..levels.len() {
-        if levels[k] == 0 && !blocked[k] {
+        if levels[k] == 0 && !has_bit(blocked, k) {
             levels[k] = given;
             placed += 1;
         }
     }
     placed
+}
+
+/// Whether the bit of a constraint is set.
+fn has_bit(mask: u64, c: usize) -> bool
+    requires { c < LIMIT }
+    ensures { result ≡ has_bit mask c }
+{
+    (mask >> c) & 1 == 1
 }

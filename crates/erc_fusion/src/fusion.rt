@@ -1,7 +1,8 @@
-ghost use Rattle.std.specs.Prelude.{◌≡◌, ◌<◌, ◌≤◌, map, length, All};
-ghost use Rattle.ot_theory.specs.Conditions.{mark_at, fused, fusion, width_of, is_contradictory};
+ghost use Rattle.std.specs.Prelude.{◌≡◌, ◌<◌, ◌^◌, map, length, All};
+ghost use Rattle.ot_theory.specs.Conditions.{mark_at, fused, fusion, width_of, is_contradictory, is_win, is_loss};
+ghost use Rattle.erc_fusion.specs.Joined.{IsJoined};
 
-use erc_vectors::{ConId, Condition, LIMIT, Mark};
+use erc_vectors::Condition;
 
 /// The fusion of conditions, of which there is at least one and which all have the same width: per constraint L if any of
 /// them has L, else W if any has W, else e (Prince 2002).
@@ -12,52 +13,30 @@ pub fn fuse(set: &[Condition]) -> Condition
     ensures width { length result ≡ width_of set.now }
 {
     let width = set[0].width();
-    let mut marks = [Mark::E; LIMIT];
-    fuse_each(&mut marks[..width], set);
-    match Condition::of(&marks[..width]) {
-        Some(fusion) => fusion,
-        None => unreachable!(),
-    }
+    let (wins, losses) = joined(width, set);
+    Condition::of_masks(width, wins & !losses, losses)
 }
 
-/// Writes the fused mark of each constraint.
-fn fuse_each(marks: &mut [Mark], set: &[Condition])
-    requires small { length marks.old ≤ LIMIT }
-    requires widths { All (λ condition. length condition ≡ length marks.old) set.now }
-    ensures { marks.new ≡ fusion (length marks.old) set.now }
+/// The constraints at which some condition has W, and those at which some has L.
+fn joined(width: usize, set: &[Condition]) -> (u64, u64)
+    requires { All (λ marks. length marks ≡ width) set.now }
+    ensures wins { IsJoined is_win set.now result.0 }
+    ensures losses { IsJoined is_loss set.now result.1 }
+    ensures wins_below { result.0 < 2 ^ width }
+    ensures losses_below { result.1 < 2 ^ width }
 {
-    for k in 0..marks.len() {
-        marks[k] = fused_at(set, ConId(k as u16));
-    }
-}
-
-/// The fused mark of a constraint.
-fn fused_at(set: &[Condition], c: ConId) -> Mark
-    requires { All (λ marks. c.0 < length marks) set.now }
-    ensures { result ≡ fused (map (λ marks. mark_at marks c.0) set.now) }
-{
-    let mut fused = Mark::E;
+    let mut wins = 0;
+    let mut losses = 0;
     for condition in set {
-        match condition.mark(c) {
-            Mark::L => return Mark::L,
-            Mark::W => fused = Mark::W,
-            Mark::E => {}
-        }
+        wins |= condition.w_mask();
+        losses |= condition.l_mask();
     }
-    fused
+    (wins, losses)
 }
 
 /// Whether a condition has an L and no W, so that no ranking keeps it.
 pub fn is_contradiction(c: &Condition) -> bool
     ensures { result ≡ is_contradictory c.now }
 {
-    let mut has_loss = false;
-    for k in 0..c.width() {
-        match c.mark(ConId(k as u16)) {
-            Mark::W => return false,
-            Mark::L => has_loss = true,
-            Mark::E => {}
-        }
-    }
-    has_loss
+    c.l_mask() != 0 && c.w_mask() == 0
 }

@@ -30,7 +30,7 @@ pub record PlacedWin (levels : List ℕ) (marks : List Mark) : Type 0 where
 abbrev is_placed_win : List ℕ → List Mark → ℕ → Bool
 is_placed_win levels marks c = is_win (mark_at marks c) && nat_lt 0 (slice_index levels c)
 
-closed-placed : (levels : List ℕ) (marks : List Mark) → is_closed levels marks ≡ true → PlacedWin levels marks
+pub closed-placed : (levels : List ℕ) (marks : List Mark) → is_closed levels marks ≡ true → PlacedWin levels marks
 closed-placed levels marks h =
     let r = any-range (is_placed_win levels marks) 0 (length marks) h in
     record {
