@@ -8,7 +8,7 @@ use Rattle.std.proofs.lemmas.Bool.Decides.{eqb_tells}
 use Rattle.std.proofs.lemmas.List.Folds.{list_any_at, list_any_none}
 use Rattle.std.proofs.lemmas.List.{get_or_past, get_or_default, get_or-map, get_or-take, length-map, length-take-le, take_all}
 use Rattle.std.proofs.lemmas.List.FromFn.{fill_by_all}
-use Rattle.std.proofs.lemmas.Nat.Bits.{bit_at_and, bit_at-zero, bit_at_set_same, bit_at_set_other, same_from_bits, bit_at-trailing_zeros}
+use Rattle.std.proofs.lemmas.Nat.Bits.{bit_at_and, bit_at_or, bit_at-zero, bit_at_set_same, bit_at_set_other, same_from_bits, bit_at-trailing_zeros}
 use Rattle.std.proofs.lemmas.Simd.{mask_l-lt}
 use Rattle.ot_theory.specs.declared.Mark.{Mark}
 use Rattle.ot_theory.specs.declared.Mark.TheVariants.{W, L, E}
@@ -140,3 +140,14 @@ any-mask test marks mask even small h = elim (eqb_tells mask 0) [
           | inl below ↦ list_any_at test marks k E below passes
           | inr past ↦ let no : true ≡ false = sym passes ∙ ap test (get_or_past marks k E past) ∙ even in absurd (cc)
         ]
+
+-- ---- one mark more, by whether it passes
+or_nothing : (a : ℕ) → bit_or a 0 ≡ a
+or_nothing a = same_from_bits (bit_or a 0) a (λ c. bit_at_or a 0 c ∙ omega (arith, bit_at-zero c))
+
+pub IsMask-put : (test : Mark → Bool) (marks : List Mark) (k mask : ℕ) (passes : Bool) → test E ≡ false → k < length marks → k < 64 → test (mark_at marks k) ≡ passes → IsMask test (take k marks) mask
+    → IsMask test (take (k + 1) marks) (bit_or mask (cond passes 1 0 * 2 ^ k % 2 ^ 64))
+IsMask-put test marks k mask true even within small e h = IsMask-set test marks k mask within small e h
+IsMask-put test marks k mask false even within small e h =
+    let none : 0 * 2 ^ k % 2 ^ 64 ≡ 0 = omega arith in
+    rw (none, or_nothing mask) (IsMask-kept test marks k mask even within e h)

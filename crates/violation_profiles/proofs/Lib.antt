@@ -2,3 +2,4 @@ pub mod Acceptable
 pub mod Inputs
 pub mod Found
 pub mod Joined
+pub mod Masked

@@ -4,13 +4,14 @@ ghost use Rattle.std.specs.Prelude.{◌≡◌, ◌≢◌, ◌<◌, ◌≤◌, le
 ghost use Rattle.erc_vectors.specs.declared.condition.TheConstants.{LIMIT};
 ghost use Rattle.ot_base.specs.declared.limits.TheConstants.{INPUT_LIMIT, CANDIDATE_LIMIT};
 ghost use Rattle.ot_base.specs.Acceptable.{IsAcceptable};
-ghost use Rattle.ot_theory.specs.Conditions.{condition, mark_of};
+ghost use Rattle.ot_theory.specs.Conditions.{condition, is_win, is_loss};
+ghost use Rattle.erc_vectors.specs.Masks.{IsMask};
 ghost use Rattle.ot_theory.specs.Languages.{classes_at, members_at, profile_at, winner_at};
 ghost use Rattle.ot_base.specs.Tableaus.{problem_of};
 ghost use Rattle.violation_profiles.specs.WellFormed.{IsWellFormed};
 
 use crate::input_classes::InputClasses;
-use erc_vectors::{Condition, LIMIT, List, Mark, NoMemory};
+use erc_vectors::{Condition, LIMIT, List, NoMemory};
 use ot_base::{ClassId, InId, Tableau};
 use std::alloc::Global;
 use std::marker::Model;
@@ -118,34 +119,23 @@ impl Problem {
         ensures width { length result ≡ self.now.constraints }
     {
         let width = self.constraints();
-        let mut all = [Mark::E; LIMIT];
-        mark_each(&mut all[..width], self.profile(i, a), self.profile(i, b));
-        match Condition::of(&all[..width]) {
-            Some(condition) => condition,
-            None => unreachable!(),
-        }
+        let (wins, losses) = masks_of(self.profile(i, a), self.profile(i, b));
+        Condition::of_masks(width, wins, losses)
     }
 }
 
-/// Writes the marks of the condition of one profile over another.
-fn mark_each(marks: &mut [Mark], winner: &[u32], loser: &[u32])
-    requires winner { length winner.now ≡ length marks.old }
-    requires loser { length loser.now ≡ length marks.old }
-    ensures { marks.new ≡ condition winner.now loser.now }
+/// The constraints at which the winner has fewer violations than the loser, and those at which it has more.
+fn masks_of(winner: &[u32], loser: &[u32]) -> (u64, u64)
+    requires same { length loser.now ≡ length winner.now }
+    requires small { length winner.now ≤ LIMIT }
+    ensures wins { IsMask is_win (condition winner.now loser.now) result.0 }
+    ensures losses { IsMask is_loss (condition winner.now loser.now) result.1 }
 {
-    for (k, mark) in marks.iter_mut().enumerate() {
-        *mark = mark_of(winner[k], loser[k]);
+    let mut wins = 0;
+    let mut losses = 0;
+    for k in 0..winner.len() {
+        wins |= u64::from(winner[k] < loser[k]) << k;
+        losses |= u64::from(loser[k] < winner[k]) << k;
     }
-}
-
-fn mark_of(winner: u32, loser: u32) -> Mark
-    ensures { result ≡ mark_of winner loser }
-{
-    if winner < loser {
-        Mark::W
-    } else if loser < winner {
-        Mark::L
-    } else {
-        Mark::E
-    }
+    (wins, losses)
 }
