@@ -117,3 +117,9 @@ not-terms problem terms a = sym (rw a at (tried problem terms))
 
 pub not-one-winner : (problem : Problem) (terms : List Term) → are_terms problem terms ≡ true → one_winner_each (terms_in terms) ≡ false → false ≡ is_contradiction problem (terms_in terms)
 not-one-winner problem terms a o = sym (rw (a, o) at (tried problem terms))
+
+-- the conditions with one term more
+pub conditions-more : (problem : Problem) (terms : List Term) (i : ℕ) (d : Term) → i < length terms
+    → map (condition_of problem) (terms_in (take (i + 1) terms)) ≡ map (condition_of problem) (terms_in (take i terms)) ++ condition_of problem (term_of (get_or terms i d)) ∷ []
+conditions-more problem terms i d within =
+    ap (map (condition_of problem)) (map_more term_of terms i d within) ∙ map-append (condition_of problem) (terms_in (take i terms)) (term_of (get_or terms i d) ∷ [])
