@@ -1,5 +1,5 @@
 -- The cuts of a problem are refuted prefixes of it, and what is gathered from honest and balanced deeds is its typology.
-use Rattle.std.proofs.Common.{◌≡◌, ℕ, zero, suc, ◌<◌, List, [], ◌∷◌, Bool, true, false, not, ◌&&◌, arith, refl, ◌∙◌, ap, cond, length, map, get_or, slice_index}
+use Rattle.std.proofs.Common.{◌≡◌, ℕ, zero, suc, ◌<◌, List, [], ◌∷◌, Bool, true, false, not, ◌&&◌, arith, refl, ◌∙◌, ap, cond, length, map, take, get_or, slice_index}
 use Rattle.std.specs.Prelude.{All, IsPermutation, IsSorted, fold}
 use Rattle.std.proofs.lemmas.Bool.{and_parts, ltb-true}
 use Rattle.std.proofs.lemmas.List.Elements.{All-weaker}
@@ -7,6 +7,7 @@ use Rattle.ot_theory.specs.Problems.{Input, Problem}
 use Rattle.ot_theory.specs.Languages.{Term, refuted, IsTypology}
 use Rattle.ot_theory.specs.Refutations.{prefixes, cuts, with_certificate, certificates, certificate_named}
 use Rattle.ot_theory.proofs.Classes.{AllClasses}
+use Rattle.ot_theory.proofs.Hopeless.{not_any}
 use Rattle.ot_theory.proofs.Optimal.{AreClasses, classes_in}
 use Rattle.violation_profiles.specs.WellFormed.{IsPrefix, IsWellFormed, IsWellFormedInput}
 use Rattle.typology_core.specs.Deeds.{Deed, AreHonest, AreBalanced, times, cuts_in, languages_in}
@@ -34,16 +35,17 @@ times-member [] k d h = absurd (omega arith)
 times-member (x ∷ xs) zero d h = omega (arith, times-first x xs)
 times-member (x ∷ xs) (suc k) d h = omega (arith, times-cons (get_or xs k d) x xs, times-member xs k d (omega arith))
 
--- a prefix of the problem that is refuted
+-- a prefix of the problem that is refuted, and no shorter front of which is
 pub record IsRefutedPrefix (problem : Problem) (classes : List ℕ) : Type 0 where
   pub prefix : IsPrefix problem classes
   pub hopeless : refuted problem classes ≡ true
+  pub shortest : (k : ℕ) → k < length classes → refuted problem (take k classes) ≡ false
 
 cuts-refuted : (problem : Problem) → All (IsRefutedPrefix problem) (cuts problem)
 unfolding cuts
 cuts-refuted problem k d below =
     let p : List ℕ = get_or (cuts problem) k d in
-    by p (fits problem.inputs p) (refuted problem p) (is_behind_cut problem p) refl refl
+    by p (fits problem.inputs p) (refuted problem p) (is_behind_cut problem p) refl refl refl
     (omega (
       arith,
       times-member (cuts problem) k d below,
@@ -51,11 +53,16 @@ cuts-refuted problem k d below =
           ∙ ap (λ n. cond (refuted problem p && not (is_behind_cut problem p)) n 0) (times-prefixes problem.inputs p),
     ))
   where
-    by : (p : List ℕ) (fit ref behind : Bool) → fits problem.inputs p ≡ fit → refuted problem p ≡ ref → 0 < cond (ref && not behind) (cond fit 1 0) 0 → IsRefutedPrefix problem p
-    by p true true behind f r some = record { prefix = IsPrefix-fits problem p f; hopeless = r }
-    by p false true true f r some = absurd (omega arith)
-    by p false true false f r some = absurd (omega arith)
-    by p fit false behind f r some = absurd (omega arith)
+    by : (p : List ℕ) (fit ref behind : Bool) → fits problem.inputs p ≡ fit → refuted problem p ≡ ref → is_behind_cut problem p ≡ behind → 0 < cond (ref && not behind) (cond fit 1 0) 0 → IsRefutedPrefix problem p
+    by p true true true f r b some = absurd (omega arith)
+    by p true true false f r b some = record {
+      prefix = IsPrefix-fits problem p f;
+      hopeless = r;
+      shortest = λ i below. not_any (λ j. refuted problem (take j p)) 0 (length p) b i (omega arith) (omega arith);
+    }
+    by p false true true f r b some = absurd (omega arith)
+    by p false true false f r b some = absurd (omega arith)
+    by p fit false behind f r b some = absurd (omega arith)
 
 -- the sorted prefixes that are cut off are refuted prefixes of the problem
 pub gathered-refuted : (problem : Problem) (deeds : List Deed) (prefixes : List (List ℕ)) → IsWellFormed problem → AreHonest problem deeds → AreBalanced problem deeds → IsPermutation (cuts_in deeds) prefixes → IsSorted order prefixes

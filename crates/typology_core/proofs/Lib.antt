@@ -10,3 +10,4 @@ pub mod Collected
 pub mod Named
 pub mod FromDeeds
 pub mod Levels
+pub mod Choices

@@ -1,3 +1,5 @@
 pub mod Deeds
 pub mod Gathered
 pub mod Findings
+pub mod Indexed
+pub mod Places

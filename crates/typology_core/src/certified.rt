@@ -1,13 +1,16 @@
 //! Cuts beside the certificates that they name.
 
-ghost use Rattle.std.specs.Prelude.{◌≡◌, ◌<◌, IfOk, IfSome, IfNone, OnOk, All, length, true};
+ghost use Rattle.std.specs.Prelude.{◌≡◌, ◌<◌, ℕ, IfOk, IfSome, IfNone, OnOk, All, length, take, true, false};
 ghost use Rattle.ot_theory.specs.Languages.{refuted};
 ghost use Rattle.ot_theory.specs.Refutations.{with_certificate};
 ghost use Rattle.violation_profiles.specs.WellFormed.{IsPrefix};
 ghost use Rattle.refutation.specs.Typologies.{certificates_of, cuts_of};
 ghost use Rattle.refutation.specs.Prefixes.{class_numbers};
 ghost use Rattle.typology_core.specs.Gathered.{AreGenuine, AreNamed, IsCertified, first_refuting};
+ghost use Rattle.typology_core.specs.Indexed.{HoldsRefuting};
+ghost use Rattle.typology_core.specs.Places.{IsIndexOf};
 
+use crate::index::Index;
 use erc_vectors::{List, NoMemory};
 use ot_base::ClassId;
 use refutation::{Contradiction, Cut, Prefix, deletion_core, refutes};
@@ -23,14 +26,16 @@ pub(crate) fn certified(
 ) -> Result<(List<Cut>, List<Contradiction>), NoMemory>
     requires prefixes { All (IsPrefix p.now) prefixes.items }
     requires refuted { All (λ prefix. refuted p.now prefix ≡ true) prefixes.items }
+    requires shortest { All (λ prefix. (k : ℕ) → k < length prefix → refuted p.now (take k prefix) ≡ false) prefixes.items }
     ensures certified { IfOk result (λ named. IsCertified p.now prefixes.items (cuts_of named.0) (certificates_of named.1)) }
     ensures genuine { IfOk result (λ named. AreGenuine p.now named.1) }
     ensures named { IfOk result (λ named. AreNamed (length named.1) named.0) }
 {
     let mut cuts = List::new(alloc);
     let mut certificates = List::new(alloc);
+    let mut index = Index::new(alloc, p)?;
     for prefix in prefixes {
-        let certificate = name_certificate(alloc, p, &prefix, &mut certificates)?;
+        let certificate = name_certificate(alloc, p, &prefix, &mut certificates, &mut index)?;
         cuts.push(Cut {
             prefix,
             certificate,
@@ -45,30 +50,44 @@ fn name_certificate(
     p: &Problem,
     prefix: &Prefix,
     certificates: &mut List<Contradiction>,
+    index: &mut Index,
 ) -> Result<usize, NoMemory>
     requires prefix { IsPrefix p.now prefix.now }
     requires refuted { refuted p.now prefix.now ≡ true }
+    requires shortest { (k : ℕ) → k < length prefix.now → refuted p.now (take k prefix.now) ≡ false }
     requires genuine { AreGenuine p.now certificates.old }
+    requires indexed { IsIndexOf p.now certificates.old index.old }
+    ensures indexed { OnOk result (IsIndexOf p.now certificates.new index.new) }
     ensures genuine { OnOk result (AreGenuine p.now certificates.new) }
     ensures listed { OnOk result (certificates_of certificates.new ≡ with_certificate p.now (certificates_of certificates.old) prefix.now) }
     ensures first { IfOk result (λ place. place ≡ first_refuting (certificates_of certificates.new) prefix.now) }
     ensures within { IfOk result (λ place. place < length certificates.new) }
 {
     let classes = prefix.as_slice();
-    if let Some(place) = place_of(certificates.as_slice(), classes) {
+    if let Some(place) = place_of(certificates.as_slice(), index.places_for(p, classes), classes) {
         return Ok(place);
     }
     let place = certificates.len();
-    certificates.push(deletion_core(alloc, p, classes)?)?;
+    let certificate = deletion_core(alloc, p, classes)?;
+    index.add(p, certificate.terms.as_slice(), place)?;
+    certificates.push(certificate)?;
     Ok(place)
 }
 
-/// The place of the first contradiction that refutes a prefix.
-fn place_of(certificates: &[Contradiction], prefix: &[ClassId]) -> Option<usize>
+/// The place of the first contradiction that refutes a prefix. Those that do are at these places.
+fn place_of(
+    certificates: &[Contradiction],
+    places: &[usize],
+    prefix: &[ClassId],
+) -> Option<usize>
+    requires { HoldsRefuting (certificates_of certificates.now) (class_numbers prefix.now) places.now }
     ensures some { IfSome result (λ place. (place ≡ first_refuting (certificates_of certificates.now) (class_numbers prefix.now)) × (place < length certificates.now)) }
     ensures none { IfNone result (first_refuting (certificates_of certificates.now) (class_numbers prefix.now) ≡ length certificates.now) }
 {
-    certificates
-        .iter()
-        .position(|certificate| refutes(certificate, prefix))
+    for place in places {
+        if refutes(&certificates[*place], prefix) {
+            return Some(*place);
+        }
+    }
+    None
 }

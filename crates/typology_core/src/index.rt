@@ -1,15 +1,17 @@
 //! The places of certificates by the last choice that each of them asks for, so that few are looked at for a prefix.
 
-ghost use Rattle.std.specs.Prelude.{◌≡◌, ◌<◌, ◌≤◌, ℕ, [], ◌∷◌, ◌++◌, length, map, true, false, IfOk, OnOk, All};
+ghost use Rattle.std.specs.Prelude.{◌≡◌, ◌<◌, ◌≤◌, ℕ, List, [], ◌∷◌, ◌++◌, length, take, true, false, IfOk, OnOk, All};
+ghost use Rattle.ot_base.specs.declared.limits.TheConstants.{CANDIDATE_LIMIT};
+ghost use Rattle.ot_theory.specs.Languages as theory;
 ghost use Rattle.ot_theory.specs.Languages.{classes_at, refuted};
-ghost use Rattle.ot_theory.specs.Refutations.{is_contradiction, refutes};
+ghost use Rattle.ot_theory.specs.Refutations.{is_contradiction};
 ghost use Rattle.violation_profiles.specs.WellFormed.{IsPrefix};
 ghost use Rattle.refutation.specs.Prefixes.{class_numbers};
 ghost use Rattle.refutation.specs.Terms.{terms_in};
-ghost use Rattle.typology_core.specs.Indexed.{is_last, IsIndex};
+ghost use Rattle.typology_core.specs.Indexed.{is_last, HoldsRefuting, IsIndex, IsLaidOut};
 
 use erc_vectors::{List, NoMemory};
-use ot_base::{ClassId, InId};
+use ot_base::{ClassId, INPUT_LIMIT, InId};
 use refutation::Term;
 use std::alloc::Global;
 use violation_profiles::Problem;
@@ -26,8 +28,7 @@ pub(crate) struct Index {
 impl Index {
     /// The index of no certificates.
     pub(crate) fn new(alloc: Global, p: &Problem) -> Result<Index, NoMemory>
-        ensures wide { IfOk result (λ index. (i : ℕ) → i < length p.now.inputs → length (classes_at p.now i) ≤ index.widest) }
-        ensures empty { IfOk result (λ index. IsIndex [] (length p.now.inputs) index.widest index.places.items) }
+        ensures { IfOk result (λ index. IsIndex p.now [] index.widest index.places.items) }
     {
         let widest = widest(p);
         let mut places = Vec::new(alloc);
@@ -38,11 +39,40 @@ impl Index {
         }
         Ok(Index { widest, places })
     }
+
+    /// The places of the certificates that give the last input of a prefix its last class as its winner, and no later one any.
+    /// Where no shorter front of the prefix is refuted, those that refute it are among them.
+    pub(crate) fn places_for(&self, p: &Problem, prefix: &[ClassId]) -> &[usize]
+        requires prefix { IsPrefix p.now (class_numbers prefix.now) }
+        requires laid_out { IsLaidOut p.now self.now.widest self.now.places.items }
+        ensures { (certificates : List (List theory.Term)) → IsIndex p.now certificates self.now.widest self.now.places.items → All (λ terms. is_contradiction p.now terms ≡ true) certificates
+            → ((k : ℕ) → k < length prefix.now → refuted p.now (take k (class_numbers prefix.now)) ≡ false) → HoldsRefuting certificates (class_numbers prefix.now) result.now }
+    {
+        prove!(prefix.len() <= p.inputs());
+        if prefix.is_empty() {
+            return &[];
+        }
+        let input = prefix.len() - 1;
+        self.places[input * self.widest + prefix[input].0 as usize].as_slice()
+    }
+
+    /// Adds a certificate, which has these terms, with its place behind those of the others.
+    pub(crate) fn add(&mut self, p: &Problem, terms: &[Term], place: usize) -> Result<(), NoMemory>
+        requires genuine { is_contradiction p.now (terms_in terms.now) ≡ true }
+        requires laid_out { IsLaidOut p.now self.old.widest self.old.places.items }
+        ensures { OnOk result ((certificates : List (List theory.Term)) → length certificates ≡ place → IsIndex p.now certificates self.old.widest self.old.places.items
+            → IsIndex p.now (certificates ++ terms_in terms.now ∷ []) self.new.widest self.new.places.items) }
+    {
+        prove!(p.inputs() <= INPUT_LIMIT);
+        let (input, winner) = last_choice(terms);
+        self.places[input * self.widest + winner].push(place)
+    }
 }
 
 /// The greatest number of classes of an input.
 fn widest(p: &Problem) -> usize
-    ensures { (i : ℕ) → i < length p.now.inputs → length (classes_at p.now i) ≤ result }
+    ensures wide { (i : ℕ) → i < length p.now.inputs → length (classes_at p.now i) ≤ result }
+    ensures small { result ≤ CANDIDATE_LIMIT }
 {
     let mut widest = 0;
     for i in 0..p.inputs() {

@@ -13,6 +13,7 @@ mod certified;
 mod deed;
 mod finding;
 mod gathering;
+mod index;
 mod lexicographic;
 mod search;
 #[cfg(test)]

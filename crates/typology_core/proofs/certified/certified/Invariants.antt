@@ -1,5 +1,6 @@
 use Rattle.refutation.specs.Typologies.{certificates_of, cuts_of}
 use Rattle.typology_core.specs.Gathered.{AreGenuine, IsCertified}
+use Rattle.typology_core.specs.Places.{IsIndexOf}
 use Rattle.typology_core.proofs.certified.certified.Given as goal
 
 -- the prefixes so far name their certificates, and these are genuine
@@ -7,4 +8,5 @@ abbrev pub invariant-loop-prefix : goal.invariant-loop-prefix
 invariant-loop-prefix l = record {
   certified : IsCertified l.p l.yielded (cuts_of l.cuts) (certificates_of l.certificates);
   genuine : AreGenuine l.p l.certificates;
+  indexed : IsIndexOf l.p l.certificates l.index;
 }

@@ -11,6 +11,10 @@ pub certified-requires-clause-refuted : goal.certified-requires-clause-refuted
 certified-requires-clause-refuted c = λ k d below.
     (gathered-refuted c.args.p.now (deeds_of c.args.all.now) c.in_ok-prefixes.prefixes.items c.inputs.ensures.well_formed c.requires.honest c.requires.balanced c.in_ok-prefixes.ensures.members c.in_ok-prefixes.ensures.sorted k d below).hopeless
 
+pub certified-requires-clause-shortest : goal.certified-requires-clause-shortest
+certified-requires-clause-shortest c = λ k d below.
+    (gathered-refuted c.args.p.now (deeds_of c.args.all.now) c.in_ok-prefixes.prefixes.items c.inputs.ensures.well_formed c.requires.honest c.requires.balanced c.in_ok-prefixes.ensures.members c.in_ok-prefixes.ensures.sorted k d below).shortest
+
 pub returns-clause-languages : goal.returns-clause-languages
 returns-clause-languages c =
     gathered-languages c.args.p.now (deeds_of c.args.all.now) (found_of c.in_ok-languages.languages) c.inputs.ensures.well_formed c.requires.honest c.requires.balanced c.in_ok-languages.ensures.members c.in_ok-languages.ensures.sorted

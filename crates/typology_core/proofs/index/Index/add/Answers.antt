@@ -1,0 +1,43 @@
+use Rattle.std.proofs.Common.{◌≡◌, ◌<◌, ◌+◌, ◌*◌, arith, length, sym, ◌∙◌, ap, refl, [], set}
+use Rattle.std.proofs.lemmas.List.{length-map, get_or_read}
+use Rattle.std.proofs.lemmas.Result.{on_ok_weaker}
+use Rattle.refutation.specs.Terms.{term_of, terms_in}
+use Rattle.typology_core.proofs.Choices.{some-term, last-within, place-within, IsIndex-push}
+use Rattle.typology_core.proofs.index.Index.add.Goals as goal
+
+pub last_choice-input-requires : goal.last_choice-input-requires
+last_choice-input-requires c = omega (arith, some-term _ _ c.requires.genuine, length-map c.args.terms.now term_of)
+
+pub index_mut-requires : goal.index_mut-requires
+index_mut-requires c =
+    let i = c.last_choice-input.result.0 in
+    let a = c.last_choice-input.result.1 in
+    let w = last-within _ _ i a c.requires.genuine c.last_choice-input.ensures in
+    omega (arith, place-within (length c.args.p.now.inputs) c.args.self.now.widest i a w.0 (omega (arith, w.1, c.requires.laid_out.wide i w.0)), c.requires.laid_out.long, c.args.self.now.places.ok.0)
+
+pub overflow_mul-input : goal.overflow_mul-input
+overflow_mul-input c =
+    let i = c.last_choice-input.result.0 in
+    let a = c.last_choice-input.result.1 in
+    let w = last-within _ _ i a c.requires.genuine c.last_choice-input.ensures in
+    record { fits = omega (arith, place-within (length c.args.p.now.inputs) c.args.self.now.widest i a w.0 (omega (arith, w.1, c.requires.laid_out.wide i w.0)), c.requires.laid_out.long, c.args.self.now.places.ok.0, c.args.self.now.places.small) }
+
+pub overflow_add-input : goal.overflow_add-input
+overflow_add-input c =
+    let i = c.last_choice-input.result.0 in
+    let a = c.last_choice-input.result.1 in
+    let w = last-within _ _ i a c.requires.genuine c.last_choice-input.ensures in
+    record { fits = omega (arith, place-within (length c.args.p.now.inputs) c.args.self.now.widest i a w.0 (omega (arith, w.1, c.requires.laid_out.wide i w.0)), c.requires.laid_out.long, c.args.self.now.places.ok.0, c.args.self.now.places.small) }
+
+pub returns : goal.returns
+returns c =
+    let problem = c.args.p.now in
+    let places = c.args.self.now.places.items in
+    let i = c.last_choice-input.result.0 in
+    let a = c.last_choice-input.result.1 in
+    let w = last-within _ _ i a c.requires.genuine c.last_choice-input.ensures in
+    let within : i * c.args.self.now.widest + a < length places =
+    omega (arith, place-within (length problem.inputs) c.args.self.now.widest i a w.0 (omega (arith, w.1, c.requires.laid_out.wide i w.0)), c.requires.laid_out.long) in
+    on_ok_weaker c.push.result (λ e certificates count index.
+      IsIndex-push problem certificates c.args.self.now.widest places _ (terms_in c.args.terms.now) i a index c.requires.genuine c.last_choice-input.ensures within
+      (ap (set places (i * c.args.self.now.widest + a)) (e ∙ rw (get_or_read places _ c.index_mut.result.now within c.index_mut.ensures.value [], count) refl))) c.push.ensures.ok
