@@ -69,13 +69,13 @@ AllFit n (input ∷ inputs) (a ∷ prefix) = Fits n input a × AllFit n inputs p
 abbrev pub classes_in : List Input → ℕ → List (List ℕ)
 classes_in inputs i = option_map_or (λ input. input.classes) (slice_get inputs i) []
 
-at_drop : (inputs : List Input) (i : ℕ) (input : Input) (rest : List Input) → drop i inputs ≡ input ∷ rest → classes_in inputs i ≡ input.classes
+pub at_drop : (inputs : List Input) (i : ℕ) (input : Input) (rest : List Input) → drop i inputs ≡ input ∷ rest → classes_in inputs i ≡ input.classes
 at_drop [] zero input rest e = absurd (cc)
 at_drop [] (suc i) input rest e = absurd (cc)
 at_drop (x ∷ inputs) zero input rest e = let same : x ≡ input = cc in ap (λ (y : Input). y.classes) same
 at_drop (x ∷ inputs) (suc i) input rest e = at_drop inputs i input rest e
 
-drop_more : (inputs : List Input) (i : ℕ) (input : Input) (rest : List Input) → drop i inputs ≡ input ∷ rest → drop (suc i) inputs ≡ rest
+pub drop_more : (inputs : List Input) (i : ℕ) (input : Input) (rest : List Input) → drop i inputs ≡ input ∷ rest → drop (suc i) inputs ≡ rest
 drop_more [] zero input rest e = absurd (cc)
 drop_more [] (suc i) input rest e = absurd (cc)
 drop_more (x ∷ inputs) zero input rest e = cc

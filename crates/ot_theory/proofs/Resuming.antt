@@ -1,15 +1,15 @@
 -- Demotion carried on from a lower bound of the hierarchies that satisfy a set: its first strata are those of the set,
 -- as long as each L in them has a W above it.
-use Rattle.std.proofs.Common.{◌≡◌, ℕ, zero, suc, ◌<◌, ◌≤◌, List, [], Bool, true, false, arith, refl, ◌∙◌, ap, cond, inl, inr, length, map, slice_index, get_or}
+use Rattle.std.proofs.Common.{◌≡◌, ℕ, zero, suc, ◌<◌, ◌≤◌, List, [], Bool, true, false, arith, refl, ◌∙◌, cond, inl, inr, length, map, slice_index, get_or}
 use Rattle.std.specs.Prelude.{All, nat_le}
 use Rattle.std.proofs.lemmas.Bool.{cases_lt, cases_Bool}
 use Rattle.std.proofs.lemmas.Bool.Decides.{leb_tells}
 use Rattle.std.proofs.lemmas.List.{get_or-map, get_or_past, length-map}
 use Rattle.ot_theory.specs.declared.Mark.{Mark}
-use Rattle.ot_theory.specs.declared.Mark.TheVariants.{W, L, E}
-use Rattle.ot_theory.specs.Conditions.{mark_at, is_win, is_loss}
-use Rattle.ot_theory.specs.Hierarchies.{Satisfies, IsAtMostEvery}
-use Rattle.ot_theory.specs.Demotion.{is_closed, StaysOpen}
+use Rattle.ot_theory.specs.declared.Mark.TheVariants.{L}
+use Rattle.ot_theory.specs.Conditions.{mark_at}
+use Rattle.ot_theory.specs.Hierarchies.{IsAtMostEvery}
+use Rattle.ot_theory.specs.Demotion.{is_closed}
 use Rattle.ot_theory.proofs.Strata.{WinAbove, is_loss-true}
 use Rattle.ot_theory.proofs.Parts.{loss-beside}
 use Rattle.ot_theory.proofs.Demotion.{PlacedWin, closed-placed, KeepsOpen, AreRounds}

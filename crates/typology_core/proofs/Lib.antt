@@ -11,3 +11,4 @@ pub mod Named
 pub mod FromDeeds
 pub mod Levels
 pub mod Choices
+pub mod Below

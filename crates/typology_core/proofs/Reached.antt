@@ -81,7 +81,7 @@ or_false : (b : Bool) → (b || false) ≡ b
 or_false true = refl
 or_false false = refl
 
-behind-push : (problem : Problem) (prefix : List ℕ) (a : ℕ) → is_behind_cut problem (prefix ++ a ∷ []) ≡ (is_behind_cut problem prefix || refuted problem prefix)
+pub behind-push : (problem : Problem) (prefix : List ℕ) (a : ℕ) → is_behind_cut problem (prefix ++ a ∷ []) ≡ (is_behind_cut problem prefix || refuted problem prefix)
 behind-push problem prefix a =
     let long : length (prefix ++ a ∷ []) ≡ length prefix + 1 = length-append prefix (a ∷ []) in
     ap (λ n. list_any (λ k. refuted problem (take k (prefix ++ a ∷ []))) (numbers_below n)) long

@@ -3,3 +3,4 @@ pub mod Gathered
 pub mod Findings
 pub mod Indexed
 pub mod Places
+pub mod Below
