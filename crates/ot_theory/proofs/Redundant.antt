@@ -124,13 +124,14 @@ kept_of-without hopeless before term terms nothing h =
     rw (same, passes) refl
 
 pub IsReduced-none : (problem : Problem) → IsReduced problem [] []
-IsReduced-none problem = record { hopeless = λ more. refl; certificate = λ more h. refl; satisfied = λ levels. refl }
+IsReduced-none problem = record { hopeless = λ more. refl; certificate = λ more h. refl; part = λ p h. h; satisfied = λ levels. refl }
 
 -- with one term more behind both
 pub IsReduced-push : (problem : Problem) (whole reduced : List Term) (term : Term) → IsReduced problem whole reduced → IsReduced problem (whole ++ term ∷ []) (reduced ++ term ∷ [])
 IsReduced-push problem whole reduced term r = record {
   hopeless = λ more. rw (push_between whole term more, push_between reduced term more) (r.hopeless (term ∷ more));
   certificate = λ more h. rw (push_between whole term more, push_between reduced term more) (r.certificate (term ∷ more) (rw (push_between whole term more) at h));
+  part = λ p h. let parts = all-parts p whole (term ∷ []) h in list_all-append p reduced (term ∷ []) ∙ and_from _ _ (r.part p parts.0) parts.1;
   satisfied = λ levels. all-pushed (satisfies levels) whole ∙ ap (λ (b : Bool). b && list_all (satisfies levels) (condition_of problem term ∷ [])) (r.satisfied levels) ∙ sym (all-pushed (satisfies levels) reduced);
 }
   where
@@ -145,6 +146,7 @@ IsReduced-without problem whole reduced term r implied = record {
   certificate = λ more h. rw (push_between whole term more) (
       let whole_hopeless : is_hopeless problem (whole ++ term ∷ more) ≡ true = rw (push_between whole term more) at h in
       r.certificate (term ∷ more) whole_hopeless ∙ without more (sym (r.hopeless (term ∷ more)) ∙ whole_hopeless));
+  part = λ p h. r.part p (all-parts p whole (term ∷ []) h).0;
   satisfied = λ levels. all-pushed (satisfies levels) ∙ both_ways _ _
       (λ h. sym (r.satisfied levels) ∙ (and_parts _ _ h).0)
       (λ h. and_from _ _ (r.satisfied levels ∙ h) (and_from _ _ (implied.satisfied levels h) refl));

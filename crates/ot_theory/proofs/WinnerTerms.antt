@@ -184,7 +184,7 @@ one_winner_each-front xs ys h =
 abbrev pub terms_below : ℕ → ℕ → ℕ → List Term
 terms_below i a n = map (term i a) (filter (λ b. not (b == a)) (numbers_below n))
 
-terms_below-more : (i a n : ℕ) → terms_below i a (n + 1) ≡ terms_below i a n ++ cond (n == a) [] (term i a n ∷ [])
+pub terms_below-more : (i a n : ℕ) → terms_below i a (n + 1) ≡ terms_below i a n ++ cond (n == a) [] (term i a n ∷ [])
 terms_below-more i a n =
     rw (numbers_below-more n, filter-append (λ b. not (b == a)) (numbers_below n) (n ∷ []), map-append (term i a)) (ap (λ (l : List Term). terms_below i a n ++ l) (last (n == a)))
   where

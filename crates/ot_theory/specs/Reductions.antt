@@ -1,5 +1,5 @@
 -- Conditions that others of a set imply, and lists of terms without some of those that earlier ones imply.
-use Rattle.std.specs.Prelude.{◌≡◌, ℕ, true, List, ◌++◌, map}
+use Rattle.std.specs.Prelude.{◌≡◌, ℕ, Bool, true, List, ◌++◌, map}
 use Rattle.std.specs.List.{list_all}
 use Rattle.ot_theory.specs.declared.Mark.{Mark}
 use Rattle.ot_theory.specs.Conditions.{keeps, mark_at, is_win, is_loss}
@@ -19,10 +19,11 @@ pub record IsImplied (set : List (List Mark)) (marks : List Mark) : Type 0 where
   pub satisfied : (levels : List ℕ) → list_all (satisfies levels) set ≡ true → satisfies levels marks ≡ true
 
 -- Of some terms without some of those that earlier ones imply: whatever terms stand behind them, a ranking keeps them all
--- where one keeps all, and the certificates are the same; and the same hierarchies satisfy them.
+-- where one keeps all, and the certificates are the same; they are among the whole; and the same hierarchies satisfy them.
 pub record IsReduced (problem : Problem) (whole reduced : List Term) : Type 0 where
   pub hopeless : (more : List Term)
       → no_ranking_keeps problem.constraints (map (condition_of problem) (whole ++ more)) ≡ no_ranking_keeps problem.constraints (map (condition_of problem) (reduced ++ more))
   pub certificate : (more : List Term) → no_ranking_keeps problem.constraints (map (condition_of problem) (whole ++ more)) ≡ true
       → certificate_of problem (whole ++ more) ≡ certificate_of problem (reduced ++ more)
+  pub part : (p : Term → Bool) → list_all p whole ≡ true → list_all p reduced ≡ true
   pub satisfied : (levels : List ℕ) → list_all (satisfies levels) (map (condition_of problem) whole) ≡ list_all (satisfies levels) (map (condition_of problem) reduced)

@@ -2,3 +2,4 @@ pub mod SoFar
 pub mod Fronts
 pub mod Winning
 pub mod TermsOfPrefixes
+pub mod Implied

@@ -87,7 +87,7 @@ terms_of-genuine problem prefix p = terms_of-all (is_term problem) problem prefi
     and_from _ _ (and_from _ _ (and_from _ _ (lt-ltb i (length problem.inputs) (omega (arith, p.short))) (lt-ltb a (length (classes_at problem i)) (omega (arith, same, class)))) (lt-ltb _ _ below)) other)
 
 -- Where a prefix makes the winner choice of each term, each input has one winner in them.
-made-one : (prefix : List ℕ) (terms : List theory.Term) → refutes terms prefix ≡ true → one_winner_each terms ≡ true
+pub made-one : (prefix : List ℕ) (terms : List theory.Term) → refutes terms prefix ≡ true → one_winner_each terms ≡ true
 made-one prefix terms h = all-weaker (is_made prefix) (λ s. list_all (agree s) terms) terms (λ s a. all-weaker (is_made prefix) (agree s) terms (λ t b. by s t a b) h) h
   where
     chosen : (w v : ℕ) → (w == v) ≡ true → w ≡ v

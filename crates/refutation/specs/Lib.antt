@@ -3,3 +3,4 @@ pub mod Prefixes
 pub mod Terms
 pub mod Typologies
 pub mod Winners
+pub mod Asked

@@ -9,6 +9,7 @@
 //! hold under no ranking, are this project's own.
 #![tactic(auto)]
 
+mod asked;
 mod certificate;
 mod contradiction;
 mod laws;
@@ -21,6 +22,7 @@ mod tests;
 mod typology;
 mod winners;
 
+pub use asked::Asked;
 pub use certificate::core_of;
 pub use contradiction::{Contradiction, fusion_of, is_genuine};
 pub use laws::genuine_refutes;

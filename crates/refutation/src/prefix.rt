@@ -34,6 +34,15 @@ impl Prefix {
         }
     }
 
+    /// The prefix of these classes.
+    pub fn of(alloc: Global, classes: &[ClassId]) -> Result<Prefix, NoMemory>
+        ensures { IfOk result (λ prefix. prefix ≡ class_numbers classes.now) }
+    {
+        Ok(Prefix {
+            classes: copied(alloc, classes)?,
+        })
+    }
+
     /// The classes, that of the first input first.
     pub fn as_slice(&self) -> &[ClassId]
         ensures { class_numbers result.now ≡ self.now }

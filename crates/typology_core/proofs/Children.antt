@@ -21,7 +21,7 @@ at_end : (xs : List ℕ) (x : ℕ) → slice_index (xs ++ x ∷ []) (length xs) 
 at_end [] x = refl
 at_end (y ∷ xs) x = at_end xs x
 
-IsPrefix-child : (problem : Problem) (prefix : List ℕ) (a : ℕ) → IsPrefix problem prefix → length prefix < length problem.inputs → a < length (classes_at problem (length prefix)) → IsPrefix problem (prefix ++ a ∷ [])
+pub IsPrefix-child : (problem : Problem) (prefix : List ℕ) (a : ℕ) → IsPrefix problem prefix → length prefix < length problem.inputs → a < length (classes_at problem (length prefix)) → IsPrefix problem (prefix ++ a ∷ [])
 IsPrefix-child problem prefix a p short below =
     let long = length-append prefix (a ∷ []) in
     record { short = omega (arith, long); within = λ i before. by i (omega (arith, long)) }

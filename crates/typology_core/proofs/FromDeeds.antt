@@ -78,7 +78,7 @@ pub record AreCertified (problem : Problem) (named : List (List ℕ × ℕ)) (li
   pub cuts : named ≡ map (λ cut. (cut, certificate_named problem cut)) (cuts problem)
   pub certificates : listed ≡ certificates problem
 
-certified : (problem : Problem) (prefixes : List (List ℕ)) (named : List (List ℕ × ℕ)) (listed : List (List Term)) → prefixes ≡ cuts problem → IsCertified problem prefixes named listed → AreCertified problem named listed
+pub certified : (problem : Problem) (prefixes : List (List ℕ)) (named : List (List ℕ × ℕ)) (listed : List (List Term)) → prefixes ≡ cuts problem → IsCertified problem prefixes named listed → AreCertified problem named listed
 unfolding certificates
 certified problem prefixes named listed e h =
     let all : listed ≡ certificates problem = h.listed ∙ ap (fold (with_certificate problem) []) e in

@@ -12,3 +12,5 @@ pub mod FromDeeds
 pub mod Levels
 pub mod Choices
 pub mod Below
+pub mod Walking
+pub mod Whole

@@ -62,12 +62,12 @@ kept-reached problem prefix h = false_from_ne_true (is_behind_cut problem prefix
     let e : true ≡ false = sym r.passes ∙ no in cc)
 
 -- a prefix with one class more
-take-append-one : (prefix : List ℕ) (a k : ℕ) → k ≤ length prefix → take k (prefix ++ a ∷ []) ≡ take k prefix
+pub take-append-one : (prefix : List ℕ) (a k : ℕ) → k ≤ length prefix → take k (prefix ++ a ∷ []) ≡ take k prefix
 take-append-one prefix a zero h = refl
 take-append-one [] a (suc k) h = absurd (omega arith)
 take-append-one (x ∷ prefix) a (suc k) h = ap (λ (l : List ℕ). x ∷ l) (take-append-one prefix a k (omega arith))
 
-take-whole : (prefix : List ℕ) → take (length prefix) prefix ≡ prefix
+pub take-whole : (prefix : List ℕ) → take (length prefix) prefix ≡ prefix
 take-whole [] = refl
 take-whole (x ∷ prefix) = ap (λ (l : List ℕ). x ∷ l) (take-whole prefix)
 

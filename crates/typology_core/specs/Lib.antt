@@ -4,3 +4,4 @@ pub mod Findings
 pub mod Indexed
 pub mod Places
 pub mod Below
+pub mod Walked

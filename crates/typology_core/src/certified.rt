@@ -75,7 +75,7 @@ fn name_certificate(
 }
 
 /// The place of the first contradiction that refutes a prefix. Those that do are at these places.
-fn place_of(
+pub(crate) fn place_of(
     certificates: &[Contradiction],
     places: &[usize],
     prefix: &[ClassId],

@@ -22,6 +22,7 @@ mod shared;
 #[cfg(test)]
 mod tests;
 mod told;
+mod walk;
 mod worker;
 
 pub use deed::{Deed, Deeds, Fate};

@@ -7,12 +7,10 @@ ghost use Rattle.refutation.specs.Typologies.{certificates_of, cuts_of, found_of
 ghost use Rattle.typology_core.specs.Gathered.{AreGenuine, AreNamed};
 ghost use Rattle.typology_core.specs.declared.search.TheConstants.{PLACE_LIMIT};
 
-use crate::gathering::gather;
-use crate::worker::Worker;
+use crate::walk::{Found, Path, visit};
 use erc_vectors::NoMemory;
 use refutation::Typology;
 use std::alloc::Global;
-use std::slice::from_ref;
 use violation_profiles::Problem;
 
 /// The greatest number of places for contradictions that a search may have.
@@ -41,14 +39,16 @@ pub fn search_alone(alloc: Global, p: &Problem, places: usize) -> Result<Alone, 
     ensures genuine { IfOk result (λ alone. AreGenuine p.now alone.typology.certificates) }
     ensures named { IfOk result (λ alone. AreNamed (length alone.typology.certificates) alone.typology.cuts) }
 {
-    let mut worker = Worker::start(alloc)?;
-    while let Some(prefix) = worker.take() {
-        let finding = worker.find(alloc, p, places, &prefix)?;
-        worker.settle(alloc, p, prefix, finding)?;
-    }
-    let typology = gather(alloc, p, from_ref(&worker.deeds))?;
+    let mut path = Path::start(alloc);
+    let mut found = Found::nothing(alloc, p)?;
+    visit(alloc, p, &mut path, &mut found)?;
+    let learns = found.learns(places);
     Ok(Alone {
-        typology,
-        learns: worker.learns,
+        typology: Typology {
+            languages: found.languages,
+            cuts: found.cuts,
+            certificates: found.certificates,
+        },
+        learns,
     })
 }

@@ -1,23 +1,20 @@
--- Each turn settles the prefix that waited longest.
-use Rattle.std.proofs.lemmas.List.Elements.{All-head}
-use Rattle.violation_profiles.specs.WellFormed.{IsPrefix}
-use Rattle.typology_core.proofs.Running.{IsRunning-turn}
+-- The walk from the empty prefix finds all.
+use Rattle.typology_core.proofs.Whole.{IsWhole, walk-whole}
 use Rattle.typology_core.proofs.search.search_alone.Goals as goal
+use Rattle.typology_core.proofs.search.search_alone.Goals.{After-drop-path-4}
 
-pub find-requires : goal.find-requires
-find-requires c = All-head (IsPrefix c.args.p.now) c.in-Some.prefix c.take.new.self.queue.items (rw c.in-Some.ensures.taken at c.loop-prefix.invariant.prefixes)
+whole : (c : After-drop-path-4) → IsWhole c.args.p.now c.visit.new.found
+whole c =
+    walk-whole c.args.p.now c.start-path.result.classes.items c.in_ok-found.found c.visit.new.found c.start-path.ensures.classes c.in_ok-found.ensures.cuts c.in_ok-found.ensures.languages c.in_ok-visit.ensures.found c.in_ok-visit.ensures.more
 
-pub settle-requires : goal.settle-requires
-settle-requires c = All-head (IsPrefix c.args.p.now) c.in-Some.prefix c.take.new.self.queue.items (rw c.in-Some.ensures.taken at c.loop-prefix.invariant.prefixes)
+pub returns-clause-languages : goal.returns-clause-languages
+returns-clause-languages c = (whole c).typology
 
-pub loop-prefix-smaller : goal.loop-prefix-smaller
-loop-prefix-smaller c =
-    (IsRunning-turn c.args.p.now c.loop-prefix.worker c.take.new.self c.find.new.self c.settle.new.self c.in-Some.prefix c.args.places c.in_ok-finding.finding c.loop-prefix.invariant
-    c.in-Some.ensures.taken c.take.ensures.store c.take.ensures.deeds c.in_ok-finding.ensures.found c.in_ok-finding.ensures.store c.find.ensures.queue c.find.ensures.deeds
-    c.settle.ensures.store c.in_ok-settle.ensures.queue c.in_ok-settle.ensures.deeds).fewer
+pub returns-clause-cuts : goal.returns-clause-cuts
+returns-clause-cuts c = (whole c).certified.cuts
 
-pub loop-prefix-preserved : goal.loop-prefix-preserved
-loop-prefix-preserved c =
-    (IsRunning-turn c.args.p.now c.loop-prefix.worker c.take.new.self c.find.new.self c.settle.new.self c.in-Some.prefix c.args.places c.in_ok-finding.finding c.loop-prefix.invariant
-    c.in-Some.ensures.taken c.take.ensures.store c.take.ensures.deeds c.in_ok-finding.ensures.found c.in_ok-finding.ensures.store c.find.ensures.queue c.find.ensures.deeds
-    c.settle.ensures.store c.in_ok-settle.ensures.queue c.in_ok-settle.ensures.deeds).running
+pub returns-clause-certificates : goal.returns-clause-certificates
+returns-clause-certificates c = (whole c).certified.certificates
+
+pub returns-clause-named : goal.returns-clause-named
+returns-clause-named c = (whole c).named

@@ -1,0 +1,82 @@
+-- Conditions that others imply, by their masks; and terms with one term more.
+use Rattle.std.proofs.Common.{◌≡◌, ℕ, ◌+◌, ◌≤◌, List, [], ◌∷◌, ◌++◌, Bool, true, false, ◌==◌, ◌^◌, ◌<◌, arith, refl, sym, ◌∙◌, ap, cond, max, map, length, append_assoc, inl, inr}
+use Rattle.std.specs.Prelude.{bit_or}
+use Rattle.std.specs.Int.{bit_at}
+use Rattle.std.proofs.lemmas.Bool.Decides.{eqb_tells}
+use Rattle.std.proofs.lemmas.List.{append-nil, map-append}
+use Rattle.std.proofs.lemmas.List.Elements.{All-nil, All-push}
+use Rattle.std.proofs.lemmas.Nat.Bits.{bit_at_or, bit_at-zero}
+use Rattle.ot_theory.specs.declared.Mark.{Mark}
+use Rattle.ot_theory.specs.Conditions.{is_win, is_loss, mark_at}
+use Rattle.ot_theory.specs.Problems.{Problem}
+use Rattle.ot_theory.specs.Languages as theory
+use Rattle.ot_theory.specs.Languages.{condition_of}
+use Rattle.ot_theory.specs.Reductions.{IsStronger, IsImplied, IsReduced}
+use Rattle.ot_theory.proofs.Terms.{term}
+use Rattle.ot_theory.proofs.WinnerTerms.{terms_below, terms_below-other, terms_below-same}
+use Rattle.ot_theory.proofs.Redundant.{IsImplied-lossless, IsReduced-none, IsReduced-push, IsReduced-without}
+use Rattle.erc_vectors.specs.Masks.{IsMask}
+use Rattle.erc_vectors.proofs.Bits.{bit_true, bit_false}
+use Rattle.refutation.specs.declared.term.Term.{Term}
+use Rattle.refutation.specs.Terms.{term_of, terms_in}
+use Rattle.refutation.specs.Asked.{AreAsked, Begins}
+
+eqb-same : (m n : ℕ) → (m == n) ≡ true → m ≡ n
+eqb-same m n h = elim (eqb_tells m n) [ inl same ↦ same.1 | inr other ↦ absurd (let no : true ≡ false = sym h ∙ other.0 in cc) ]
+
+-- Where the one mask adds nothing to the other, the other has each bit of it.
+within : (test : Mark → Bool) (xs ys : List Mark) (m n : ℕ) → IsMask test xs m → IsMask test ys n → bit_or m n ≡ n → (c : ℕ) → test (mark_at xs c) ≡ true → test (mark_at ys c) ≡ true
+within test xs ys m n p q e c h =
+    let set : bit_at m c ≡ 1 = p c ∙ ap (λ (t : Bool). cond t 1 0) h in
+    let both : bit_at n c ≡ max (bit_at m c) (bit_at n c) = ap (λ (k : ℕ). bit_at k c) (sym e) ∙ bit_at_or m n c in
+    by (test (mark_at ys c)) (q c) (omega (arith, set, both))
+  where
+    by : (t : Bool) → bit_at n c ≡ cond t 1 0 → 1 ≤ bit_at n c → t ≡ true
+    by true e l = refl
+    by false e l = absurd (omega arith)
+
+pub stronger-masks : (marks weaker : List Mark) (w losses wins l : ℕ) → IsMask is_win marks w → IsMask is_loss marks losses → IsMask is_win weaker wins → IsMask is_loss weaker l → bit_or w wins ≡ wins → (bit_or l losses == losses) ≡ true → IsStronger marks weaker
+stronger-masks marks weaker w losses wins l a b c d more h = record { wins = within is_win marks weaker w wins a c more; losses = within is_loss weaker marks l losses d b (eqb-same _ _ h) }
+
+pub lossless-mask : (set : List (List Mark)) (marks : List Mark) (l : ℕ) → IsMask is_loss marks l → l ≡ 0 → IsImplied set marks
+lossless-mask set marks l m none = IsImplied-lossless set marks (λ c. bit_false (bit_at l c) (is_loss (mark_at marks c)) (ap (λ (n : ℕ). bit_at n c) none ∙ bit_at-zero c) (m c))
+
+pub Begins-same : {X : Type 0} (front list : List X) → list ≡ front → Begins front list
+Begins-same front list e = record { rest = []; whole = e ∙ sym (append-nil front) }
+
+pub Begins-push : {X : Type 0} (front list more : List X) (x : X) → Begins front list → more ≡ list ++ x ∷ [] → Begins front more
+Begins-push front list more x b e = record { rest = b.rest ++ x ∷ []; whole = e ∙ ap (λ (l : List _). l ++ x ∷ []) b.whole ∙ append_assoc front b.rest (x ∷ []) }
+
+pub Begins-trans : {X : Type 0} (front list more : List X) → Begins front list → Begins list more → Begins front more
+Begins-trans front list more b c = record { rest = b.rest ++ c.rest; whole = c.whole ∙ ap (λ (l : List _). l ++ c.rest) b.whole ∙ append_assoc front b.rest c.rest }
+
+-- one term more, which is kept
+pub asked-pushed : (problem : Problem) (whole : List theory.Term) (terms more : List Term) (conditions next : List (List Mark)) (term : Term) (marks : List Mark) → marks ≡ condition_of problem (term_of term) → length marks ≡ problem.constraints → more ≡ terms ++ term ∷ [] → next ≡ conditions ++ marks ∷ []
+    → AreAsked problem whole terms conditions → AreAsked problem (whole ++ term_of term ∷ []) more next
+asked-pushed problem whole terms more conditions next term marks here wide e f asked =
+    let those : terms_in more ≡ terms_in terms ++ term_of term ∷ [] = ap terms_in e ∙ map-append term_of terms (term ∷ []) in
+    record {
+      reduced = rw those (IsReduced-push problem whole (terms_in terms) (term_of term) asked.reduced);
+      widths = rw f (All-push (λ (m : List Mark). length m ≡ problem.constraints) conditions marks asked.widths wide);
+      each = f ∙ rw (asked.each, here) (sym (ap (map (condition_of problem)) those ∙ map-append (condition_of problem) (terms_in terms) (term_of term ∷ [])));
+    }
+
+-- one that the others imply
+pub asked-implied : (problem : Problem) (whole : List theory.Term) (terms : List Term) (conditions : List (List Mark)) (term : Term) (marks : List Mark) → marks ≡ condition_of problem (term_of term) → IsImplied conditions marks
+    → AreAsked problem whole terms conditions → AreAsked problem (whole ++ term_of term ∷ []) terms conditions
+asked-implied problem whole terms conditions term marks here implied asked = record {
+  reduced = IsReduced-without problem whole (terms_in terms) (term_of term) asked.reduced (rw (asked.each, here) at implied);
+  widths = asked.widths;
+  each = asked.each;
+}
+
+-- the terms over one class more
+pub asked-other : (problem : Problem) (whole : List theory.Term) (i a b : ℕ) (t : theory.Term) (terms : List Term) (conditions : List (List Mark)) → (b == a) ≡ false → t ≡ term i a b → AreAsked problem ((whole ++ terms_below i a b) ++ t ∷ []) terms conditions → AreAsked problem (whole ++ terms_below i a (b + 1)) terms conditions
+asked-other problem whole i a b t terms conditions other same h =
+    rw (terms_below-other i a b other, ← same, ← append_assoc whole (terms_below i a b) (t ∷ [])) h
+
+pub asked-same : (problem : Problem) (whole : List theory.Term) (i a b : ℕ) (terms : List Term) (conditions : List (List Mark)) → (b == a) ≡ true → AreAsked problem (whole ++ terms_below i a b) terms conditions → AreAsked problem (whole ++ terms_below i a (b + 1)) terms conditions
+asked-same problem whole i a b terms conditions same h = rw (terms_below-same i a b same) h
+
+pub asked-nothing : (problem : Problem) → AreAsked problem [] [] []
+asked-nothing problem = record { reduced = IsReduced-none problem; widths = All-nil (λ (marks : List Mark). length marks ≡ problem.constraints); each = refl }

@@ -1,0 +1,125 @@
+//! What the classes of a prefix ask of a ranking, without what earlier classes ask already.
+
+ghost use Rattle.std.specs.Prelude.{◌≡◌, ◌<◌, List, [], ◌∷◌, ◌++◌, length, take, true, OnOk};
+ghost use Rattle.ot_theory.specs.Languages as theory;
+ghost use Rattle.ot_theory.specs.Languages.{classes_at, terms_of_class};
+ghost use Rattle.ot_theory.specs.Reductions.{IsImplied, IsStronger};
+ghost use Rattle.ot_theory.specs.Refutations.{is_term};
+ghost use Rattle.refutation.specs.Terms.{term_of};
+ghost use Rattle.refutation.specs.Asked.{AreAsked, Begins};
+
+use crate::term::{Term, condition_of};
+use erc_vectors::{Condition, NoMemory};
+use ot_base::{ClassId, InId};
+use std::alloc::Global;
+use violation_profiles::Problem;
+
+/// Terms, and the condition of each. A term is left out whose condition has no L, or has W wherever an earlier one has it and L
+/// only where that one has it: what keeps that one keeps it.
+#[derive(Debug, Drop)]
+pub struct Asked {
+    pub terms: Vec<Term>,
+    pub conditions: Vec<Condition>,
+}
+
+impl Asked {
+    /// What no term asks.
+    pub fn nothing(alloc: Global) -> Asked
+        ensures terms { result.terms.items ≡ [] }
+        ensures conditions { result.conditions.items ≡ [] }
+    {
+        Asked {
+            terms: Vec::new(alloc),
+            conditions: Vec::new(alloc),
+        }
+    }
+
+    /// Adds a class of an input against each other class of it.
+    pub fn add(&mut self, p: &Problem, input: InId, winner: ClassId) -> Result<(), NoMemory>
+        requires input { input.0 < length p.now.inputs }
+        requires class { winner.0 < length (classes_at p.now input.0) }
+        ensures asked { OnOk result ((whole : List theory.Term) → AreAsked p.now whole self.old.terms.items self.old.conditions.items
+            → AreAsked p.now (whole ++ terms_of_class (classes_at p.now input.0) input.0 winner.0) self.new.terms.items self.new.conditions.items) }
+        ensures terms { OnOk result (Begins self.old.terms.items self.new.terms.items) }
+        ensures conditions { OnOk result (Begins self.old.conditions.items self.new.conditions.items) }
+    {
+        for b in 0..p.classes(input) {
+            let loser = ClassId(b as u16);
+            if loser != winner {
+                self.add_term(p, Term {
+                    input,
+                    winner,
+                    loser,
+                })?;
+            }
+        }
+        Ok(())
+    }
+
+    /// Adds a term, unless the earlier ones imply its condition.
+    fn add_term(&mut self, p: &Problem, term: Term) -> Result<(), NoMemory>
+        requires { is_term p.now (term_of term) ≡ true }
+        ensures asked { OnOk result ((whole : List theory.Term) → AreAsked p.now whole self.old.terms.items self.old.conditions.items
+            → AreAsked p.now (whole ++ term_of term ∷ []) self.new.terms.items self.new.conditions.items) }
+        ensures terms { OnOk result (Begins self.old.terms.items self.new.terms.items) }
+        ensures conditions { OnOk result (Begins self.old.conditions.items self.new.conditions.items) }
+    {
+        let condition = condition_of(p, &term);
+        if is_implied(self.conditions.as_slice(), &condition) {
+            return Ok(());
+        }
+        push_term(&mut self.terms, term)?;
+        push_condition(&mut self.conditions, condition)
+    }
+
+    /// Drops the terms behind the first ones.
+    pub fn forget(&mut self, kept: usize)
+        ensures terms { self.new.terms.items ≡ take kept self.old.terms.items }
+        ensures conditions { self.new.conditions.items ≡ take kept self.old.conditions.items }
+    {
+        self.terms.truncate(kept);
+        self.conditions.truncate(kept);
+    }
+}
+
+fn push_term(terms: &mut Vec<Term>, term: Term) -> Result<(), NoMemory>
+    ensures { OnOk result (terms.new.items ≡ terms.old.items ++ term ∷ []) }
+{
+    if terms.push(term).is_err() {
+        return Err(NoMemory);
+    }
+    Ok(())
+}
+
+fn push_condition(conditions: &mut Vec<Condition>, condition: Condition) -> Result<(), NoMemory>
+    ensures { OnOk result (conditions.new.items ≡ conditions.old.items ++ condition ∷ []) }
+{
+    if conditions.push(condition).is_err() {
+        return Err(NoMemory);
+    }
+    Ok(())
+}
+
+/// Whether a condition has no L, or is weaker than one of some others.
+fn is_implied(conditions: &[Condition], condition: &Condition) -> bool
+    ensures { result ≡ true → IsImplied conditions.now condition.now }
+{
+    if condition.l_mask() == 0 {
+        return true;
+    }
+    for other in conditions {
+        if is_stronger(other, condition) {
+            return true;
+        }
+    }
+    false
+}
+
+/// Whether the one condition has W only where the other has it, and L wherever the other has it.
+fn is_stronger(condition: &Condition, weaker: &Condition) -> bool
+    ensures { result ≡ true → IsStronger condition.now weaker.now }
+{
+    let wins = weaker.w_mask();
+    let losses = condition.l_mask();
+    condition.w_mask() | wins == wins && weaker.l_mask() | losses == losses
+}

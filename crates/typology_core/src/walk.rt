@@ -1,0 +1,221 @@
+//! A walk through the prefixes of a problem, depth first and in class order.
+//!
+//! It finds the languages and the cuts in lexicographic order, and so it names the certificate of a cut when it comes to it.
+
+ghost use Rattle.std.specs.Prelude.{◌≡◌, ◌<◌, ◌≤◌, ◌+◌, ℕ, [], ◌∷◌, ◌++◌, length, true, false, take, IfOk, OnOk, IfSome, IfNone, All};
+ghost use Rattle.ot_base.specs.declared.limits.TheConstants.{INPUT_LIMIT};
+ghost use Rattle.ot_theory.specs.Hierarchies.{IsLeastHierarchy};
+ghost use Rattle.ot_theory.specs.Languages.{classes_at, conditions_of, refuted};
+ghost use Rattle.violation_profiles.specs.WellFormed.{IsPrefix};
+ghost use Rattle.refutation.specs.Prefixes.{class_numbers};
+ghost use Rattle.refutation.specs.Typologies.{certificates_of, cuts_of, found_of};
+ghost use Rattle.typology_core.specs.Gathered.{first_refuting};
+ghost use Rattle.typology_core.specs.Walked.{AreAllBelow, AreMore, IsCutOff, IsEntered, IsFoundOf, IsPathOf, IsReached, IsSamePath, prefix_of};
+
+use crate::certified::place_of;
+use crate::index::Index;
+use demotion::least_hierarchy;
+use erc_vectors::{List, NoMemory, Strata};
+use ot_base::{ClassId, INPUT_LIMIT, InId};
+use refutation::{Asked, Contradiction, Cut, Language, Prefix, core_of};
+use std::alloc::Global;
+use violation_profiles::Problem;
+
+/// The prefix where the walk stands, and what its classes ask of a ranking.
+#[derive(Debug, Drop)]
+pub(crate) struct Path {
+    pub(crate) classes: Vec<ClassId>,
+    pub(crate) asked: Asked,
+}
+
+/// What the walk found so far.
+#[derive(Debug, Drop)]
+pub(crate) struct Found {
+    pub(crate) languages: List<Language>,
+    pub(crate) cuts: List<Cut>,
+    pub(crate) certificates: List<Contradiction>,
+    pub(crate) index: Index,
+}
+
+/// Adds the languages and the cuts that extend a prefix which no certificate so far refutes.
+pub(crate) fn visit(
+    alloc: Global,
+    p: &Problem,
+    path: &mut Path,
+    found: &mut Found,
+) -> Result<(), NoMemory>
+    requires path { IsPathOf p.now path.old }
+    requires fresh { first_refuting (certificates_of found.old.certificates) (prefix_of path.old) ≡ length found.old.certificates }
+    requires found { IsFoundOf p.now found.old }
+    ensures found { OnOk result (IsFoundOf p.now found.new) }
+    ensures more { OnOk result ((n : ℕ) → length path.old.classes.items + n ≡ length p.now.inputs → AreAllBelow p.now n (prefix_of path.old) found.old found.new) }
+    ensures path { OnOk result (IsSamePath path.old path.new) }
+{
+    match hierarchy_of(p, path) {
+        None => found.add_certificate(alloc, p, path),
+        Some(strata) if path.classes.len() == p.inputs() => {
+            found.add_language(alloc, p, path, strata)
+        }
+        Some(_) => {
+            let input = InId(path.classes.len() as u32);
+            for a in 0..p.classes(input) {
+                let terms = path.asked.terms.len();
+                if enter(alloc, p, ClassId(a as u16), path, found)? {
+                    visit(alloc, p, path, found)?;
+                    leave(path, input, terms);
+                }
+            }
+            Ok(())
+        }
+    }
+}
+
+/// The least hierarchy of the conditions of a prefix, if some ranking keeps them.
+fn hierarchy_of(p: &Problem, path: &Path) -> Option<Strata>
+    requires { IsPathOf p.now path.now }
+    ensures held { IfSome result (λ levels. refuted p.now (prefix_of path.now) ≡ false) }
+    ensures least { IfSome result (λ levels. IsLeastHierarchy p.now.constraints (conditions_of p.now (prefix_of path.now)) levels) }
+    ensures refuted { IfNone result (refuted p.now (prefix_of path.now) ≡ true) }
+    ensures short { length path.now.classes.items ≤ length p.now.inputs }
+    ensures small { length p.now.inputs ≤ INPUT_LIMIT }
+{
+    prove!(path.classes.len() <= p.inputs());
+    least_hierarchy(p.constraints(), path.asked.conditions.as_slice())
+}
+
+/// Goes on to a class of the next input. Where a certificate refutes the prefix with this class, it is cut off instead.
+fn enter(
+    alloc: Global,
+    p: &Problem,
+    class: ClassId,
+    path: &mut Path,
+    found: &mut Found,
+) -> Result<bool, NoMemory>
+    requires path { IsPathOf p.now path.old }
+    requires held { refuted p.now (prefix_of path.old) ≡ false }
+    requires shorter { length path.old.classes.items < length p.now.inputs }
+    requires class { class.0 < length (classes_at p.now (length path.old.classes.items)) }
+    requires found { IsFoundOf p.now found.old }
+    ensures entered { IfOk result (λ entered. entered ≡ true → IsEntered p.now class.0 path.old path.new found.old found.new) }
+    ensures cut { IfOk result (λ entered. entered ≡ false → IsCutOff p.now class.0 path.old path.new found.old found.new) }
+{
+    prove!(p.inputs() <= INPUT_LIMIT);
+    let input = InId(path.classes.len() as u32);
+    go_on(&mut path.classes, class)?;
+    if let Some(place) = found.place_of(p, path.classes.as_slice()) {
+        found.add_cut(alloc, path.classes.as_slice(), place)?;
+        path.classes.truncate(input.0 as usize);
+        return Ok(false);
+    }
+    path.asked.add(p, input, class)?;
+    Ok(true)
+}
+
+fn go_on(classes: &mut Vec<ClassId>, class: ClassId) -> Result<(), NoMemory>
+    ensures { OnOk result (classes.new.items ≡ classes.old.items ++ class ∷ []) }
+{
+    if classes.push(class).is_err() {
+        return Err(NoMemory);
+    }
+    Ok(())
+}
+
+/// Goes back to the prefix of the inputs before this one, whose classes ask the first terms.
+fn leave(path: &mut Path, input: InId, terms: usize)
+    ensures classes { path.new.classes.items ≡ take input.0 path.old.classes.items }
+    ensures terms { path.new.asked.terms.items ≡ take terms path.old.asked.terms.items }
+    ensures conditions { path.new.asked.conditions.items ≡ take terms path.old.asked.conditions.items }
+{
+    path.classes.truncate(input.0 as usize);
+    path.asked.forget(terms);
+}
+
+impl Path {
+    /// The empty prefix.
+    pub(crate) fn start(alloc: Global) -> Path
+        ensures classes { result.classes.items ≡ [] }
+        ensures terms { result.asked.terms.items ≡ [] }
+        ensures conditions { result.asked.conditions.items ≡ [] }
+    {
+        Path {
+            classes: Vec::new(alloc),
+            asked: Asked::nothing(alloc),
+        }
+    }
+}
+
+impl Found {
+    /// How often a search that opens the shorter prefixes first judges a prefix, with so many places for contradictions.
+    pub(crate) fn learns(&self, places: usize) -> u64 {
+        (self.languages.len() as u64).saturating_add(self.certificates.len() as u64)
+    }
+
+    /// What is found before the first step.
+    pub(crate) fn nothing(alloc: Global, p: &Problem) -> Result<Found, NoMemory>
+        ensures found { IfOk result (λ found. IsFoundOf p.now found) }
+        ensures languages { IfOk result (λ found. found.languages ≡ []) }
+        ensures cuts { IfOk result (λ found. found.cuts ≡ []) }
+        ensures certificates { IfOk result (λ found. found.certificates ≡ []) }
+    {
+        Ok(Found {
+            languages: List::new(alloc),
+            cuts: List::new(alloc),
+            certificates: List::new(alloc),
+            index: Index::new(alloc, p)?,
+        })
+    }
+
+    /// The place of the first certificate that refutes a prefix.
+    fn place_of(&self, p: &Problem, classes: &[ClassId]) -> Option<usize>
+        requires reached { IsReached p.now (class_numbers classes.now) }
+        requires found { IsFoundOf p.now self.now }
+        ensures some { IfSome result (λ place. (place ≡ first_refuting (certificates_of self.now.certificates) (class_numbers classes.now)) × (place < length self.now.certificates)) }
+        ensures none { IfNone result (first_refuting (certificates_of self.now.certificates) (class_numbers classes.now) ≡ length self.now.certificates) }
+    {
+        place_of(self.certificates.as_slice(), self.index.places_for(p, classes), classes)
+    }
+
+    /// Adds a cut that names a certificate.
+    fn add_cut(&mut self, alloc: Global, classes: &[ClassId], certificate: usize) -> Result<(), NoMemory>
+        ensures cuts { OnOk result (self.new.cuts ≡ self.old.cuts ++ (record { prefix = class_numbers classes.now; certificate = certificate }) ∷ []) }
+        ensures languages { self.new.languages ≡ self.old.languages }
+        ensures certificates { self.new.certificates ≡ self.old.certificates }
+        ensures index { self.new.index ≡ self.old.index }
+    {
+        self.cuts.push(Cut {
+            prefix: Prefix::of(alloc, classes)?,
+            certificate,
+        })
+    }
+
+    /// Adds a cut beside its own certificate.
+    fn add_certificate(&mut self, alloc: Global, p: &Problem, path: &Path) -> Result<(), NoMemory>
+        requires path { IsPathOf p.now path.now }
+        requires refuted { refuted p.now (prefix_of path.now) ≡ true }
+        requires fresh { first_refuting (certificates_of self.old.certificates) (prefix_of path.now) ≡ length self.old.certificates }
+        requires found { IsFoundOf p.now self.old }
+        ensures found { OnOk result (IsFoundOf p.now self.new) }
+        ensures more { OnOk result (AreMore (prefix_of path.now ∷ []) [] self.old self.new) }
+    {
+        prove!(path.classes.len() <= p.inputs());
+        let certificate = core_of(alloc, p, path.asked.terms.as_slice())?;
+        let place = self.certificates.len();
+        self.index.add(p, certificate.terms.as_slice(), place)?;
+        self.certificates.push(certificate)?;
+        self.add_cut(alloc, path.classes.as_slice(), place)
+    }
+
+    /// Adds a language.
+    fn add_language(&mut self, alloc: Global, p: &Problem, path: &Path, strata: Strata) -> Result<(), NoMemory>
+        requires path { IsPathOf p.now path.now }
+        requires least { IsLeastHierarchy p.now.constraints (conditions_of p.now (prefix_of path.now)) strata }
+        requires found { IsFoundOf p.now self.old }
+        ensures found { OnOk result (IsFoundOf p.now self.new) }
+        ensures more { OnOk result (AreMore [] (prefix_of path.now ∷ []) self.old self.new) }
+    {
+        self.languages.push(Language {
+            choice: Prefix::of(alloc, path.classes.as_slice())?,
+            strata,
+        })
+    }
+}
