@@ -34,8 +34,9 @@ impl Asked {
         }
     }
 
-    /// Adds a class of an input against each other class of it.
-    pub fn add(&mut self, p: &Problem, input: InId, winner: ClassId) -> Result<(), NoMemory>
+    /// Adds a class of an input against each other class of it. A term is left out where its condition has no L, or is implied
+    /// by that of a term from this place on.
+    pub fn add(&mut self, p: &Problem, input: InId, winner: ClassId, from: usize) -> Result<(), NoMemory>
         requires input { input.0 < length p.now.inputs }
         requires class { winner.0 < length (classes_at p.now input.0) }
         ensures asked { OnOk result ((whole : List theory.Term) → AreAsked p.now whole self.old.terms.items self.old.conditions.items
@@ -46,18 +47,19 @@ impl Asked {
         for b in 0..p.classes(input) {
             let loser = ClassId(b as u16);
             if loser != winner {
-                self.add_term(p, Term {
+                let term = Term {
                     input,
                     winner,
                     loser,
-                })?;
+                };
+                self.add_term(p, term, from)?;
             }
         }
         Ok(())
     }
 
-    /// Adds a term, unless the earlier ones imply its condition.
-    fn add_term(&mut self, p: &Problem, term: Term) -> Result<(), NoMemory>
+    /// Adds a term, unless those from this place on imply its condition.
+    fn add_term(&mut self, p: &Problem, term: Term, from: usize) -> Result<(), NoMemory>
         requires { is_term p.now (term_of term) ≡ true }
         ensures asked { OnOk result ((whole : List theory.Term) → AreAsked p.now whole self.old.terms.items self.old.conditions.items
             → AreAsked p.now (whole ++ term_of term ∷ []) self.new.terms.items self.new.conditions.items) }
@@ -65,7 +67,7 @@ impl Asked {
         ensures conditions { OnOk result (Begins self.old.conditions.items self.new.conditions.items) }
     {
         let condition = condition_of(p, &term);
-        if is_implied(self.conditions.as_slice(), &condition) {
+        if is_implied(self.conditions.as_slice(), from, &condition) {
             return Ok(());
         }
         push_term(&mut self.terms, term)?;
@@ -100,15 +102,15 @@ fn push_condition(conditions: &mut Vec<Condition>, condition: Condition) -> Resu
     Ok(())
 }
 
-/// Whether a condition has no L, or is weaker than one of some others.
-fn is_implied(conditions: &[Condition], condition: &Condition) -> bool
+/// Whether a condition has no L, or is weaker than one of some others from this place on.
+fn is_implied(conditions: &[Condition], from: usize, condition: &Condition) -> bool
     ensures { result ≡ true → IsImplied conditions.now condition.now }
 {
     if condition.l_mask() == 0 {
         return true;
     }
-    for other in conditions {
-        if is_stronger(other, condition) {
+    for k in from..conditions.len() {
+        if is_stronger(&conditions[k], condition) {
             return true;
         }
     }

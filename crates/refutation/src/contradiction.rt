@@ -34,11 +34,9 @@ impl Contradiction {
     pub(crate) fn of(alloc: Global, terms: &[Term]) -> Result<Contradiction, NoMemory>
         ensures { IfOk result (λ contradiction. contradiction.terms ≡ terms.now) }
     {
-        let mut copy = List::new(alloc);
-        for term in terms {
-            copy.push(*term)?;
-        }
-        Ok(Contradiction { terms: copy })
+        Ok(Contradiction {
+            terms: List::of(alloc, terms)?,
+        })
     }
 }
 

@@ -72,9 +72,5 @@ impl Prefix {
 fn copied(alloc: Global, classes: &[ClassId]) -> Result<List<ClassId>, NoMemory>
     ensures { IfOk result (λ copy. copy ≡ classes.now) }
 {
-    let mut copy = List::new(alloc);
-    for class in classes {
-        copy.push(*class)?;
-    }
-    Ok(copy)
+    List::of(alloc, classes)
 }

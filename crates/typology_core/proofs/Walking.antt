@@ -34,7 +34,7 @@ use Rattle.typology_core.specs.Indexed.{IsIndex}
 use Rattle.typology_core.specs.Places.{IsIndexOf}
 use Rattle.typology_core.specs.declared.index.Index.{Index}
 use Rattle.typology_core.specs.Below.{cuts_below, languages_below}
-use Rattle.typology_core.specs.Walked.{AreAllBelow, AreMore, IsCutOff, IsEntered, IsFoundOf, IsPathOf, IsReached, IsSamePath, choices_of, cut_prefixes, prefix_of}
+use Rattle.typology_core.specs.Walked.{AreAllBelow, AreMore, IsDone, IsEntered, IsFoundOf, IsPathOf, IsReached, IsSamePath, choices_of, cut_prefixes, prefix_of}
 use Rattle.typology_core.specs.declared.walk.Found.{Found}
 use Rattle.typology_core.specs.declared.walk.Path.{Path}
 use Rattle.typology_core.proofs.Children.{IsPrefix-child, children_below}
@@ -214,20 +214,23 @@ same-prefix path other s = ap class_numbers s.classes
 pub same-path : (problem : Problem) (path other : Path) → IsPathOf problem path → IsSamePath path other → IsPathOf problem other
 same-path problem path other h s = record { reached = rw (same-prefix path other s) h.reached; asked = rw (same-prefix path other s, s.terms, s.conditions) h.asked }
 
-take-front : {X : Type 0} (n : ℕ) (front list : List X) → n ≡ length front → Begins front list → take n list ≡ front
+pub take-front : {X : Type 0} (n : ℕ) (front list : List X) → n ≡ length front → Begins front list → take n list ≡ front
 take-front n front list e b = ap (take n) b.whole ∙ take-append-le n front b.rest (omega arith) ∙ take_all n front (omega arith)
 
+pub length-conditions : (problem : Problem) (path : Path) → IsPathOf problem path → length path.asked.conditions.items ≡ length path.asked.terms.items
+length-conditions problem path h = ap (λ (l : List (List Mark)). length l) h.asked.each ∙ length-map (terms_in path.asked.terms.items) (condition_of problem) ∙ length-map path.asked.terms.items term_of
+
 -- back from a child
-pub back-from : (problem : Problem) (start path child end back : Path) (a i terms : ℕ) (found same : Found) → IsPathOf problem path → IsSamePath start path → IsEntered problem a path child found same → IsSamePath child end
+pub back-from : (problem : Problem) (start path child end back : Path) (i terms : ℕ) → IsPathOf problem path → IsSamePath start path
+    → Begins path.classes.items child.classes.items → Begins path.asked.terms.items child.asked.terms.items → Begins path.asked.conditions.items child.asked.conditions.items → IsSamePath child end
     → i ≡ length start.classes.items → terms ≡ length path.asked.terms.items → back.classes.items ≡ take i end.classes.items → back.asked.terms.items ≡ take terms end.asked.terms.items → back.asked.conditions.items ≡ take terms end.asked.conditions.items
     → IsSamePath start back
-back-from problem start path child end back a i terms found same h s e last long count classes those conditions =
-    let as_many : length path.asked.conditions.items ≡ length path.asked.terms.items =
-    ap (λ (l : List (List Mark)). length l) h.asked.each ∙ length-map (terms_in path.asked.terms.items) (condition_of problem) ∙ length-map path.asked.terms.items term_of in
+back-from problem start path child end back i terms h s b d e last long count classes those conditions =
+    let as_many : length path.asked.conditions.items ≡ length path.asked.terms.items = length-conditions problem path h in
     record {
-      classes = classes ∙ ap (take i) last.classes ∙ take-front i path.classes.items child.classes.items (long ∙ ap (λ (l : List ClassId). length l) (sym s.classes)) e.classes ∙ s.classes;
-      terms = those ∙ ap (take terms) last.terms ∙ take-front terms path.asked.terms.items child.asked.terms.items count e.terms ∙ s.terms;
-      conditions = conditions ∙ ap (take terms) last.conditions ∙ take-front terms path.asked.conditions.items child.asked.conditions.items (count ∙ sym as_many) e.conditions ∙ s.conditions;
+      classes = classes ∙ ap (take i) last.classes ∙ take-front i path.classes.items child.classes.items (long ∙ ap (λ (l : List ClassId). length l) (sym s.classes)) b ∙ s.classes;
+      terms = those ∙ ap (take terms) last.terms ∙ take-front terms path.asked.terms.items child.asked.terms.items count d ∙ s.terms;
+      conditions = conditions ∙ ap (take terms) last.conditions ∙ take-front terms path.asked.conditions.items child.asked.conditions.items (count ∙ sym as_many) e ∙ s.conditions;
     }
 
 -- The conditions of a path have a mark for each constraint.
@@ -255,10 +258,10 @@ pub entered-more : (problem : Problem) (n a : ℕ) (start path child : Path) (fi
 entered-more problem n a start path child first before same now s e count more h =
     let here : prefix_of child ≡ prefix_of start ++ a ∷ [] = e.prefix ∙ ap (λ (l : List ℕ). l ++ a ∷ []) (same-prefix start path s) in
     let fits : length child.classes.items + n ≡ length problem.inputs = omega (arith, e.long, ap (λ (l : List ClassId). length l) s.classes, count) in
-    below-more problem n a (prefix_of start) first before now h (rw (here, e.kept) at (more n fits))
+    below-more problem n a (prefix_of start) first before now h (rw (here, e.opened.kept) at (more n fits))
 
-pub cut_off-more : (problem : Problem) (n a : ℕ) (start path same : Path) (first before now : Found) → IsSamePath start path → IsCutOff problem a path same before now
+pub done-more : (problem : Problem) (n a : ℕ) (start path same : Path) (first before now : Found) → IsSamePath start path → IsDone problem a path same before now → length start.classes.items + (n + 1) ≡ length problem.inputs
     → AreMoreBelow problem n a (prefix_of start) first before → AreMoreBelow problem n (a + 1) (prefix_of start) first now
-cut_off-more problem n a start path same first before now s cut h =
+done-more problem n a start path same first before now s done count h =
     let here : prefix_of path ≡ prefix_of start = same-prefix start path s in
-    below-more problem n a (prefix_of start) first before now h (below-refuted problem n (prefix_of start ++ a ∷ []) before now (rw here at cut.hopeless) (rw here at cut.grown))
+    below-more problem n a (prefix_of start) first before now h (rw here at (done.below n (omega (arith, ap (λ (l : List ClassId). length l) s.classes, count))))

@@ -57,20 +57,29 @@ pub record AreMore (new_cuts new_languages : List (List ℕ)) (found more : Foun
 abbrev pub AreAllBelow : Problem → ℕ → List ℕ → Found → Found → Type 0
 AreAllBelow problem n prefix found more = AreMore (cuts_below problem n prefix) (languages_below problem n prefix) found more
 
--- The path goes on to a class of the next input, and no certificate so far refutes it.
+-- The prefix is neither refuted nor a full choice, and nothing is found yet.
+pub record IsToOpen (problem : Problem) (path : Path) (found same : Found) : Type 0 where
+  pub held : refuted problem (prefix_of path) ≡ false
+  pub shorter : length path.classes.items < length problem.inputs
+  pub kept : same ≡ found
+
+-- All that extends the prefix is found.
+pub record IsSettled (problem : Problem) (path : Path) (found more : Found) : Type 0 where
+  pub sound : IsFoundOf problem more
+  pub below : (n : ℕ) → length path.classes.items + n ≡ length problem.inputs → AreAllBelow problem n (prefix_of path) found more
+
+-- The path goes on to a class of the next input, and is neither refuted nor a full choice.
 pub record IsEntered (problem : Problem) (a : ℕ) (path child : Path) (found same : Found) : Type 0 where
   pub here : IsPathOf problem child
   pub prefix : prefix_of child ≡ prefix_of path ++ a ∷ []
   pub classes : Begins path.classes.items child.classes.items
   pub long : length child.classes.items ≡ length path.classes.items + 1
-  pub fresh : first_refuting (certificates_of same.certificates) (prefix_of child) ≡ length same.certificates
   pub terms : Begins path.asked.terms.items child.asked.terms.items
   pub conditions : Begins path.asked.conditions.items child.asked.conditions.items
-  pub kept : same ≡ found
+  pub opened : IsToOpen problem child found same
 
--- The path stays, and this child of its prefix is cut off.
-pub record IsCutOff (problem : Problem) (a : ℕ) (path same : Path) (found more : Found) : Type 0 where
+-- The path stays, and all that extends its prefix by this class is found.
+pub record IsDone (problem : Problem) (a : ℕ) (path same : Path) (found more : Found) : Type 0 where
   pub stays : IsSamePath path same
-  pub hopeless : refuted problem (prefix_of path ++ a ∷ []) ≡ true
-  pub grown : AreMore ((prefix_of path ++ a ∷ []) ∷ []) [] found more
   pub sound : IsFoundOf problem more
+  pub below : (n : ℕ) → length path.classes.items + (n + 1) ≡ length problem.inputs → AreAllBelow problem n (prefix_of path ++ a ∷ []) found more

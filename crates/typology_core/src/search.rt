@@ -7,7 +7,7 @@ ghost use Rattle.refutation.specs.Typologies.{certificates_of, cuts_of, found_of
 ghost use Rattle.typology_core.specs.Gathered.{AreGenuine, AreNamed};
 ghost use Rattle.typology_core.specs.declared.search.TheConstants.{PLACE_LIMIT};
 
-use crate::walk::{Found, Path, visit};
+use crate::walk::{Found, Path, walk};
 use erc_vectors::NoMemory;
 use refutation::Typology;
 use std::alloc::Global;
@@ -41,7 +41,7 @@ pub fn search_alone(alloc: Global, p: &Problem, places: usize) -> Result<Alone, 
 {
     let mut path = Path::start(alloc);
     let mut found = Found::nothing(alloc, p)?;
-    visit(alloc, p, &mut path, &mut found)?;
+    walk(alloc, p, &mut path, &mut found)?;
     let learns = found.learns(places);
     Ok(Alone {
         typology: Typology {

@@ -10,7 +10,7 @@ ghost use Rattle.violation_profiles.specs.WellFormed.{IsPrefix};
 ghost use Rattle.refutation.specs.Prefixes.{class_numbers};
 ghost use Rattle.refutation.specs.Typologies.{certificates_of, cuts_of, found_of};
 ghost use Rattle.typology_core.specs.Gathered.{first_refuting};
-ghost use Rattle.typology_core.specs.Walked.{AreAllBelow, AreMore, IsCutOff, IsEntered, IsFoundOf, IsPathOf, IsReached, IsSamePath, prefix_of};
+ghost use Rattle.typology_core.specs.Walked.{AreAllBelow, AreMore, IsDone, IsEntered, IsFoundOf, IsPathOf, IsReached, IsSamePath, IsSettled, IsToOpen, prefix_of};
 
 use crate::certified::place_of;
 use crate::index::Index;
@@ -38,7 +38,7 @@ pub(crate) struct Found {
 }
 
 /// Adds the languages and the cuts that extend a prefix which no certificate so far refutes.
-pub(crate) fn visit(
+pub(crate) fn walk(
     alloc: Global,
     p: &Problem,
     path: &mut Path,
@@ -49,24 +49,54 @@ pub(crate) fn visit(
     requires found { IsFoundOf p.now found.old }
     ensures found { OnOk result (IsFoundOf p.now found.new) }
     ensures more { OnOk result ((n : ℕ) → length path.old.classes.items + n ≡ length p.now.inputs → AreAllBelow p.now n (prefix_of path.old) found.old found.new) }
+{
+    if holds(alloc, p, path, found)? {
+        visit(alloc, p, path, found)?;
+    }
+    Ok(())
+}
+
+/// Adds the languages and the cuts that extend a prefix which is not refuted and is no full choice.
+fn visit(alloc: Global, p: &Problem, path: &mut Path, found: &mut Found) -> Result<(), NoMemory>
+    requires path { IsPathOf p.now path.old }
+    requires held { refuted p.now (prefix_of path.old) ≡ false }
+    requires shorter { length path.old.classes.items < length p.now.inputs }
+    requires found { IsFoundOf p.now found.old }
+    ensures found { OnOk result (IsFoundOf p.now found.new) }
+    ensures more { OnOk result ((n : ℕ) → length path.old.classes.items + n ≡ length p.now.inputs → AreAllBelow p.now n (prefix_of path.old) found.old found.new) }
     ensures path { OnOk result (IsSamePath path.old path.new) }
 {
+    prove!(p.inputs() <= INPUT_LIMIT);
+    let input = InId(path.classes.len() as u32);
+    for a in 0..p.classes(input) {
+        let terms = path.asked.terms.len();
+        if enter(alloc, p, ClassId(a as u16), path, found)? {
+            visit(alloc, p, path, found)?;
+            leave(path, input, terms);
+        }
+    }
+    Ok(())
+}
+
+/// Whether a prefix that no certificate so far refutes is neither refuted nor a full choice. Where it is, it is added as a cut or a
+/// language.
+fn holds(alloc: Global, p: &Problem, path: &Path, found: &mut Found) -> Result<bool, NoMemory>
+    requires path { IsPathOf p.now path.now }
+    requires fresh { first_refuting (certificates_of found.old.certificates) (prefix_of path.now) ≡ length found.old.certificates }
+    requires found { IsFoundOf p.now found.old }
+    ensures opened { IfOk result (λ opened. opened ≡ true → IsToOpen p.now path.now found.old found.new) }
+    ensures settled { IfOk result (λ opened. opened ≡ false → IsSettled p.now path.now found.old found.new) }
+{
     match hierarchy_of(p, path) {
-        None => found.add_certificate(alloc, p, path),
+        None => {
+            found.add_certificate(alloc, p, path)?;
+            Ok(false)
+        }
         Some(strata) if path.classes.len() == p.inputs() => {
-            found.add_language(alloc, p, path, strata)
+            found.add_language(alloc, p, path, strata)?;
+            Ok(false)
         }
-        Some(_) => {
-            let input = InId(path.classes.len() as u32);
-            for a in 0..p.classes(input) {
-                let terms = path.asked.terms.len();
-                if enter(alloc, p, ClassId(a as u16), path, found)? {
-                    visit(alloc, p, path, found)?;
-                    leave(path, input, terms);
-                }
-            }
-            Ok(())
-        }
+        Some(_) => Ok(true),
     }
 }
 
@@ -83,7 +113,7 @@ fn hierarchy_of(p: &Problem, path: &Path) -> Option<Strata>
     least_hierarchy(p.constraints(), path.asked.conditions.as_slice())
 }
 
-/// Goes on to a class of the next input. Where a certificate refutes the prefix with this class, it is cut off instead.
+/// Goes on to a class of the next input, unless the prefix with this class is refuted or a full choice: then that is added instead.
 fn enter(
     alloc: Global,
     p: &Problem,
@@ -97,7 +127,7 @@ fn enter(
     requires class { class.0 < length (classes_at p.now (length path.old.classes.items)) }
     requires found { IsFoundOf p.now found.old }
     ensures entered { IfOk result (λ entered. entered ≡ true → IsEntered p.now class.0 path.old path.new found.old found.new) }
-    ensures cut { IfOk result (λ entered. entered ≡ false → IsCutOff p.now class.0 path.old path.new found.old found.new) }
+    ensures settled { IfOk result (λ entered. entered ≡ false → IsDone p.now class.0 path.old path.new found.old found.new) }
 {
     prove!(p.inputs() <= INPUT_LIMIT);
     let input = InId(path.classes.len() as u32);
@@ -107,8 +137,15 @@ fn enter(
         path.classes.truncate(input.0 as usize);
         return Ok(false);
     }
-    path.asked.add(p, input, class)?;
-    Ok(true)
+    let terms = path.asked.terms.len();
+    path.asked.add(p, input, class, terms)?;
+    if holds(alloc, p, path, found)? {
+        path.asked.forget(terms);
+        path.asked.add(p, input, class, 0)?;
+        return Ok(true);
+    }
+    leave(path, input, terms);
+    Ok(false)
 }
 
 fn go_on(classes: &mut Vec<ClassId>, class: ClassId) -> Result<(), NoMemory>
