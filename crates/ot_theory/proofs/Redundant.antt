@@ -3,7 +3,7 @@ use Rattle.std.proofs.Common.{◌≡◌, ◌⊎◌, ℕ, zero, suc, ◌<◌, Lis
 use Rattle.std.specs.Prelude.{All, IsTrue}
 use Rattle.std.specs.List.{list_all, list_any}
 use Rattle.std.proofs.lemmas.Bool.{and_parts, and_from, cases_Bool, not-true}
-use Rattle.std.proofs.lemmas.List.{append-nil, map-append}
+use Rattle.std.proofs.lemmas.List.{append-nil, append_assoc, map-append}
 use Rattle.std.proofs.lemmas.List.Folds.{list_all-append}
 use Rattle.std.proofs.lemmas.List.Elements.{All-head, All-tail}
 use Rattle.ot_theory.specs.declared.Mark.{Mark}
@@ -123,50 +123,93 @@ kept_of-without hopeless before term terms nothing h =
     let passes : hopeless (before ++ kept_of hopeless before terms) ≡ true = kept_of-passes hopeless before terms (sym (nothing terms) ∙ h) in
     rw (same, passes) refl
 
-pub IsReduced-none : (problem : Problem) → IsReduced problem [] []
-IsReduced-none problem = record { hopeless = λ more. refl; certificate = λ more h. refl; part = λ p h. h; satisfied = λ levels. refl }
+pub IsReduced-same : (problem : Problem) (terms : List Term) → IsReduced problem terms terms
+IsReduced-same problem terms = record { hopeless = λ before more. refl; kept = λ before more h. refl; part = λ p h. h; satisfied = λ levels. refl }
+
+all-pushed : (problem : Problem) (p : List Mark → Bool) (terms : List Term) (term : Term) → list_all p (map (condition_of problem) (terms ++ term ∷ [])) ≡ (list_all p (map (condition_of problem) terms) && list_all p (condition_of problem term ∷ []))
+all-pushed problem p terms term = ap (list_all p) (map-append (condition_of problem) terms (term ∷ [])) ∙ list_all-append p (map (condition_of problem) terms) (condition_of problem term ∷ [])
 
 -- with one term more behind both
 pub IsReduced-push : (problem : Problem) (whole reduced : List Term) (term : Term) → IsReduced problem whole reduced → IsReduced problem (whole ++ term ∷ []) (reduced ++ term ∷ [])
 IsReduced-push problem whole reduced term r = record {
-  hopeless = λ more. rw (push_between whole term more, push_between reduced term more) (r.hopeless (term ∷ more));
-  certificate = λ more h. rw (push_between whole term more, push_between reduced term more) (r.certificate (term ∷ more) (rw (push_between whole term more) at h));
+  hopeless = λ before more. rw (push_between whole term more, push_between reduced term more) (r.hopeless before (term ∷ more));
+  kept = λ before more h. rw (push_between whole term more, push_between reduced term more) (r.kept before (term ∷ more) (rw (push_between whole term more) at h));
   part = λ p h. let parts = all-parts p whole (term ∷ []) h in list_all-append p reduced (term ∷ []) ∙ and_from _ _ (r.part p parts.0) parts.1;
-  satisfied = λ levels. all-pushed (satisfies levels) whole ∙ ap (λ (b : Bool). b && list_all (satisfies levels) (condition_of problem term ∷ [])) (r.satisfied levels) ∙ sym (all-pushed (satisfies levels) reduced);
+  satisfied = λ levels. all-pushed problem (satisfies levels) whole term ∙ ap (λ (b : Bool). b && list_all (satisfies levels) (condition_of problem term ∷ [])) (r.satisfied levels) ∙ sym (all-pushed problem (satisfies levels) reduced term);
 }
-  where
-    all-pushed : (p : List Mark → Bool) (terms : List Term) → list_all p (map (condition_of problem) (terms ++ term ∷ [])) ≡ (list_all p (map (condition_of problem) terms) && list_all p (condition_of problem term ∷ []))
-    all-pushed p terms = ap (list_all p) (map-append (condition_of problem) terms (term ∷ [])) ∙ list_all-append p (map (condition_of problem) terms) (condition_of problem term ∷ [])
+
+-- what stands before a set changes nothing
+IsImplied-behind : (before set : List (List Mark)) (marks : List Mark) → IsImplied set marks → IsImplied (before ++ set) marks
+IsImplied-behind before set marks i = record {
+  kept = λ order h. i.kept order (all-parts (keeps order) before set h).1;
+  satisfied = λ levels h. i.satisfied levels (all-parts (satisfies levels) before set h).1;
+}
 
 -- with one term more, which is left out
 pub IsReduced-without : (problem : Problem) (whole reduced : List Term) (term : Term) → IsReduced problem whole reduced → IsImplied (map (condition_of problem) reduced) (condition_of problem term) → IsReduced problem (whole ++ term ∷ []) reduced
-unfolding certificate_of
 IsReduced-without problem whole reduced term r implied = record {
-  hopeless = λ more. rw (push_between whole term more) (r.hopeless (term ∷ more) ∙ nothing more);
-  certificate = λ more h. rw (push_between whole term more) (
-      let whole_hopeless : is_hopeless problem (whole ++ term ∷ more) ≡ true = rw (push_between whole term more) at h in
-      r.certificate (term ∷ more) whole_hopeless ∙ without more (sym (r.hopeless (term ∷ more)) ∙ whole_hopeless));
+  hopeless = λ before more. rw (push_between whole term more) (r.hopeless before (term ∷ more) ∙ nothing before more);
+  kept = λ before more h. rw (push_between whole term more) (
+      let whole_hopeless : is_hopeless problem (before ++ (whole ++ term ∷ more)) ≡ true = rw (push_between whole term more) at h in
+      r.kept before (term ∷ more) whole_hopeless ∙ without before more (sym (r.hopeless before (term ∷ more)) ∙ whole_hopeless));
   part = λ p h. r.part p (all-parts p whole (term ∷ []) h).0;
-  satisfied = λ levels. all-pushed (satisfies levels) ∙ both_ways _ _
+  satisfied = λ levels. all-pushed problem (satisfies levels) whole term ∙ both_ways _ _
       (λ h. sym (r.satisfied levels) ∙ (and_parts _ _ h).0)
       (λ h. and_from _ _ (r.satisfied levels ∙ h) (and_from _ _ (implied.satisfied levels h) refl));
 }
   where
-    all-pushed : (p : List Mark → Bool) → list_all p (map (condition_of problem) (whole ++ term ∷ [])) ≡ (list_all p (map (condition_of problem) whole) && list_all p (condition_of problem term ∷ []))
-    all-pushed p = ap (list_all p) (map-append (condition_of problem) whole (term ∷ [])) ∙ list_all-append p (map (condition_of problem) whole) (condition_of problem term ∷ [])
+    behind : (before more : List Term) → is_hopeless problem ((before ++ reduced) ++ term ∷ more) ≡ is_hopeless problem ((before ++ reduced) ++ more)
+    behind before more =
+        ap (no_ranking_keeps problem.constraints) (map-append (condition_of problem) (before ++ reduced) (term ∷ more))
+        ∙ hopeless-implied problem.constraints (map (condition_of problem) (before ++ reduced)) (condition_of problem term) (map (condition_of problem) more)
+        (rw (map-append (condition_of problem) before reduced) (IsImplied-behind (map (condition_of problem) before) (map (condition_of problem) reduced) (condition_of problem term) implied))
+        ∙ ap (no_ranking_keeps problem.constraints) (sym (map-append (condition_of problem) (before ++ reduced) more))
 
-    nothing : (more : List Term) → is_hopeless problem (reduced ++ term ∷ more) ≡ is_hopeless problem (reduced ++ more)
-    nothing more =
-        ap (no_ranking_keeps problem.constraints) (map-append (condition_of problem) reduced (term ∷ more))
-        ∙ hopeless-implied problem.constraints (map (condition_of problem) reduced) (condition_of problem term) (map (condition_of problem) more) implied
-        ∙ ap (no_ranking_keeps problem.constraints) (sym (map-append (condition_of problem) reduced more))
+    nothing : (before more : List Term) → is_hopeless problem (before ++ (reduced ++ term ∷ more)) ≡ is_hopeless problem (before ++ (reduced ++ more))
+    nothing before more = rw (append_assoc before reduced (term ∷ more), append_assoc before reduced more) at (behind before more)
 
-    without : (more : List Term) → is_hopeless problem (reduced ++ term ∷ more) ≡ true → certificate_of problem (reduced ++ term ∷ more) ≡ certificate_of problem (reduced ++ more)
-    without more h =
-        let behind : kept_of (is_hopeless problem) reduced (term ∷ more) ≡ kept_of (is_hopeless problem) reduced more = kept_of-without (is_hopeless problem) reduced term more nothing h in
-        kept_of-append (is_hopeless problem) [] reduced (term ∷ more)
-        ∙ ap (λ (kept : List Term). kept_of (λ terms. is_hopeless problem (terms ++ kept)) [] reduced ++ kept) behind
-        ∙ sym (kept_of-append (is_hopeless problem) [] reduced more)
+    without : (before more : List Term) → is_hopeless problem (before ++ (reduced ++ term ∷ more)) ≡ true → kept_of (is_hopeless problem) before (reduced ++ term ∷ more) ≡ kept_of (is_hopeless problem) before (reduced ++ more)
+    without before more h =
+        let all : is_hopeless problem ((before ++ reduced) ++ term ∷ more) ≡ true = rw (append_assoc before reduced (term ∷ more)) h in
+        let same : kept_of (is_hopeless problem) (before ++ reduced) (term ∷ more) ≡ kept_of (is_hopeless problem) (before ++ reduced) more = kept_of-without (is_hopeless problem) (before ++ reduced) term more (behind before) all in
+        kept_of-append (is_hopeless problem) before reduced (term ∷ more)
+        ∙ ap (λ (kept : List Term). kept_of (λ terms. is_hopeless problem (terms ++ kept)) before reduced ++ kept) same
+        ∙ sym (kept_of-append (is_hopeless problem) before reduced more)
+
+-- reduced twice
+pub IsReduced-trans : (problem : Problem) (whole middle reduced : List Term) → IsReduced problem whole middle → IsReduced problem middle reduced → IsReduced problem whole reduced
+IsReduced-trans problem whole middle reduced r s = record {
+  hopeless = λ before more. r.hopeless before more ∙ s.hopeless before more;
+  kept = λ before more h. r.kept before more h ∙ s.kept before more (sym (r.hopeless before more) ∙ h);
+  part = λ p h. s.part p (r.part p h);
+  satisfied = λ levels. r.satisfied levels ∙ s.satisfied levels;
+}
+
+-- one list behind another one
+pub IsReduced-append : (problem : Problem) (whole reduced others fewer : List Term) → IsReduced problem whole reduced → IsReduced problem others fewer → IsReduced problem (whole ++ others) (reduced ++ fewer)
+IsReduced-append problem whole reduced others fewer r s = record {
+  hopeless = λ before more. rw (append_assoc whole others more, append_assoc reduced fewer more) (r.hopeless before (others ++ more) ∙ moved before more);
+  kept = λ before more h. rw (append_assoc whole others more, append_assoc reduced fewer more) (
+      let all : is_hopeless problem (before ++ (whole ++ (others ++ more))) ≡ true = rw (append_assoc whole others more) at h in
+      r.kept before (others ++ more) all ∙ behind before more (rw (← append_assoc before reduced (others ++ more)) at (sym (r.hopeless before (others ++ more)) ∙ all)));
+  part = λ p h. let parts = all-parts p whole others h in list_all-append p reduced fewer ∙ and_from _ _ (r.part p parts.0) (s.part p parts.1);
+  satisfied = λ levels. all-appended (satisfies levels) whole others
+      ∙ ap (λ (b : Bool). b && list_all (satisfies levels) (map (condition_of problem) others)) (r.satisfied levels)
+      ∙ ap (λ (b : Bool). list_all (satisfies levels) (map (condition_of problem) reduced) && b) (s.satisfied levels)
+      ∙ sym (all-appended (satisfies levels) reduced fewer);
+}
+  where
+    all-appended : (p : List Mark → Bool) (xs ys : List Term) → list_all p (map (condition_of problem) (xs ++ ys)) ≡ (list_all p (map (condition_of problem) xs) && list_all p (map (condition_of problem) ys))
+    all-appended p xs ys = ap (list_all p) (map-append (condition_of problem) xs ys) ∙ list_all-append p (map (condition_of problem) xs) (map (condition_of problem) ys)
+
+    moved : (before more : List Term) → is_hopeless problem (before ++ (reduced ++ (others ++ more))) ≡ is_hopeless problem (before ++ (reduced ++ (fewer ++ more)))
+    moved before more = rw (append_assoc before reduced (others ++ more), append_assoc before reduced (fewer ++ more)) at (s.hopeless (before ++ reduced) more)
+
+    behind : (before more : List Term) → is_hopeless problem ((before ++ reduced) ++ (others ++ more)) ≡ true → kept_of (is_hopeless problem) before (reduced ++ (others ++ more)) ≡ kept_of (is_hopeless problem) before (reduced ++ (fewer ++ more))
+    behind before more h =
+        kept_of-append (is_hopeless problem) before reduced (others ++ more)
+        ∙ ap (λ (kept : List Term). kept_of (λ terms. is_hopeless problem (terms ++ kept)) before reduced ++ kept) (s.kept (before ++ reduced) more h)
+        ∙ sym (kept_of-append (is_hopeless problem) before reduced (fewer ++ more))
 
 IsTrue-all : {X : Type 0} (p : X → Bool) (xs : List X) → All (λ x. IsTrue (p x)) xs → list_all p xs ≡ true
 IsTrue-all p [] h = refl
@@ -186,8 +229,9 @@ IsReduced-least problem whole reduced levels r h = record {
 }
 
 pub IsReduced-hopeless : (problem : Problem) (whole reduced : List Term) → IsReduced problem whole reduced → is_hopeless problem whole ≡ is_hopeless problem reduced
-IsReduced-hopeless problem whole reduced r = ap (is_hopeless problem) (sym (append-nil whole)) ∙ r.hopeless [] ∙ ap (is_hopeless problem) (append-nil reduced)
+IsReduced-hopeless problem whole reduced r = ap (is_hopeless problem) (sym (append-nil whole)) ∙ r.hopeless [] [] ∙ ap (is_hopeless problem) (append-nil reduced)
 
 pub IsReduced-certificate : (problem : Problem) (whole reduced : List Term) → IsReduced problem whole reduced → is_hopeless problem whole ≡ true → certificate_of problem whole ≡ certificate_of problem reduced
+unfolding certificate_of
 IsReduced-certificate problem whole reduced r h =
-    ap (certificate_of problem) (sym (append-nil whole)) ∙ r.certificate [] (ap (is_hopeless problem) (append-nil whole) ∙ h) ∙ ap (certificate_of problem) (append-nil reduced)
+    ap (kept_of (is_hopeless problem) []) (sym (append-nil whole)) ∙ r.kept [] [] (ap (is_hopeless problem) (append-nil whole) ∙ h) ∙ ap (kept_of (is_hopeless problem) []) (append-nil reduced)

@@ -1,10 +1,10 @@
 -- Conditions that others imply, by their masks; and terms with one term more.
-use Rattle.std.proofs.Common.{◌≡◌, ℕ, ◌+◌, ◌≤◌, List, [], ◌∷◌, ◌++◌, Bool, true, false, ◌==◌, ◌^◌, ◌<◌, arith, refl, sym, ◌∙◌, ap, cond, max, map, length, append_assoc, inl, inr}
+use Rattle.std.proofs.Common.{◌≡◌, ℕ, ◌+◌, ◌≤◌, List, [], ◌∷◌, ◌++◌, Bool, true, false, ◌==◌, ◌^◌, ◌<◌, arith, refl, sym, ◌∙◌, ap, cond, max, min, map, length, take, get_or, append_assoc, inl, inr}
 use Rattle.std.specs.Prelude.{bit_or}
 use Rattle.std.specs.Int.{bit_at}
 use Rattle.std.proofs.lemmas.Bool.Decides.{eqb_tells}
-use Rattle.std.proofs.lemmas.List.{append-nil, map-append}
-use Rattle.std.proofs.lemmas.List.Elements.{All-nil, All-push}
+use Rattle.std.proofs.lemmas.List.{append-nil, get_or-map, length-map, map-append, map_more, take_all}
+use Rattle.std.proofs.lemmas.List.Elements.{All-append, All-nil, All-push}
 use Rattle.std.proofs.lemmas.Nat.Bits.{bit_at_or, bit_at-zero}
 use Rattle.ot_theory.specs.declared.Mark.{Mark}
 use Rattle.ot_theory.specs.Conditions.{is_win, is_loss, mark_at}
@@ -14,7 +14,7 @@ use Rattle.ot_theory.specs.Languages.{condition_of}
 use Rattle.ot_theory.specs.Reductions.{IsStronger, IsImplied, IsReduced}
 use Rattle.ot_theory.proofs.Terms.{term}
 use Rattle.ot_theory.proofs.WinnerTerms.{terms_below, terms_below-other, terms_below-same}
-use Rattle.ot_theory.proofs.Redundant.{IsImplied-lossless, IsReduced-none, IsReduced-push, IsReduced-without}
+use Rattle.ot_theory.proofs.Redundant.{IsImplied-lossless, IsReduced-append, IsReduced-push, IsReduced-same, IsReduced-trans, IsReduced-without}
 use Rattle.erc_vectors.specs.Masks.{IsMask}
 use Rattle.erc_vectors.proofs.Bits.{bit_true, bit_false}
 use Rattle.refutation.specs.declared.term.Term.{Term}
@@ -79,4 +79,66 @@ pub asked-same : (problem : Problem) (whole : List theory.Term) (i a b : ℕ) (t
 asked-same problem whole i a b terms conditions same h = rw (terms_below-same i a b same) h
 
 pub asked-nothing : (problem : Problem) → AreAsked problem [] [] []
-asked-nothing problem = record { reduced = IsReduced-none problem; widths = All-nil (λ (marks : List Mark). length marks ≡ problem.constraints); each = refl }
+asked-nothing problem = record { reduced = IsReduced-same problem []; widths = All-nil (λ (marks : List Mark). length marks ≡ problem.constraints); each = refl }
+
+-- one list of terms behind another one
+pub asked-append : (problem : Problem) (whole others : List theory.Term) (terms these more : List Term) (conditions those next : List (List Mark)) → more ≡ terms ++ these → next ≡ conditions ++ those
+    → AreAsked problem whole terms conditions → AreAsked problem others these those → AreAsked problem (whole ++ others) more next
+asked-append problem whole others terms these more conditions those next e f asked other =
+    let all : terms_in more ≡ terms_in terms ++ terms_in these = ap terms_in e ∙ map-append term_of terms these in
+    record {
+      reduced = rw all (IsReduced-append problem whole (terms_in terms) others (terms_in these) asked.reduced other.reduced);
+      widths = rw f (All-append (λ (m : List Mark). length m ≡ problem.constraints) conditions those asked.widths other.widths);
+      each = f ∙ rw (asked.each, other.each) (sym (ap (map (condition_of problem)) all ∙ map-append (condition_of problem) (terms_in terms) (terms_in these)));
+    }
+
+-- the terms of another list so far, and all of them
+pub asked-whole : (problem : Problem) (whole others : List theory.Term) (these terms : List Term) (those conditions : List (List Mark)) → AreAsked problem others these those → AreAsked problem (whole ++ terms_in these) terms conditions
+    → AreAsked problem (whole ++ others) terms conditions
+asked-whole problem whole others these terms those conditions other h = record {
+  reduced = IsReduced-trans problem (whole ++ others) (whole ++ terms_in these) (terms_in terms) (IsReduced-append problem whole whole others (terms_in these) (IsReduced-same problem whole) other.reduced) h.reduced;
+  widths = h.widths;
+  each = h.each;
+}
+
+-- the condition of a term of another list
+condition-at : (problem : Problem) (others : List theory.Term) (these : List Term) (those : List (List Mark)) (k : ℕ) (d : Term) (e : List Mark) → AreAsked problem others these those → k < length those
+    → (k < length these) × (get_or those k e ≡ condition_of problem (term_of (get_or these k d)))
+condition-at problem others these those k d e other below =
+    let long : length those ≡ length these = ap (λ (l : List (List Mark)). length l) other.each ∙ length-map (terms_in these) (condition_of problem) ∙ length-map these term_of in
+    let within : k < length these = omega (arith, long) in
+    (
+      within,
+      ap (λ (l : List (List Mark)). get_or l k e) other.each
+          ∙ get_or-map (condition_of problem) (terms_in these) k (term_of d) e (omega (arith, length-map these term_of))
+          ∙ ap (condition_of problem) (get_or-map term_of these k d (term_of d) within),
+    )
+
+fronts : (whole : List theory.Term) (these : List Term) (k : ℕ) (d : Term) → k < length these → (whole ++ terms_in (take k these)) ++ term_of (get_or these k d) ∷ [] ≡ whole ++ terms_in (take (k + 1) these)
+fronts whole these k d below = append_assoc whole (terms_in (take k these)) (term_of (get_or these k d) ∷ []) ∙ ap (λ (l : List theory.Term). whole ++ l) (sym (map_more term_of these k d below))
+
+-- one term more of another list, which is needed
+pub asked-needed : (problem : Problem) (whole others : List theory.Term) (these terms more : List Term) (those conditions next : List (List Mark)) (k : ℕ) (term : Term) (marks : List Mark) → AreAsked problem others these those → k < length those
+    → term ≡ get_or these k term → marks ≡ get_or those k marks → more ≡ terms ++ term ∷ [] → next ≡ conditions ++ marks ∷ []
+    → AreAsked problem (whole ++ terms_in (take k these)) terms conditions → AreAsked problem (whole ++ terms_in (take (k + 1) these)) more next
+asked-needed problem whole others these terms more those conditions next k term marks other below t m e f asked =
+    let at = condition-at problem others these those k term marks other below in
+    let here : marks ≡ condition_of problem (term_of term) = m ∙ at.1 ∙ ap (λ (u : Term). condition_of problem (term_of u)) (sym t) in
+    let wide : length marks ≡ problem.constraints = ap (λ (l : List Mark). length l) m ∙ other.widths k marks below in
+    rw (← fronts whole these k term at.0, ← t) (asked-pushed problem (whole ++ terms_in (take k these)) terms more conditions next term marks here wide e f asked)
+
+-- and one that is not
+pub asked-spared : (problem : Problem) (whole others : List theory.Term) (these terms : List Term) (those conditions : List (List Mark)) (k : ℕ) (d : Term) (marks : List Mark) → AreAsked problem others these those → k < length those
+    → marks ≡ get_or those k marks → IsImplied conditions marks → AreAsked problem (whole ++ terms_in (take k these)) terms conditions → AreAsked problem (whole ++ terms_in (take (k + 1) these)) terms conditions
+asked-spared problem whole others these terms those conditions k d marks other below m implied asked =
+    let at = condition-at problem others these those k d marks other below in
+    rw (← fronts whole these k d at.0) (asked-implied problem (whole ++ terms_in (take k these)) terms conditions (get_or these k d) marks (m ∙ at.1) implied asked)
+
+pub asked-all : (problem : Problem) (whole others : List theory.Term) (these terms : List Term) (those conditions : List (List Mark)) (k : ℕ) → AreAsked problem others these those → min (length these) (length those) ≤ k
+    → AreAsked problem (whole ++ terms_in (take k these)) terms conditions → AreAsked problem (whole ++ others) terms conditions
+asked-all problem whole others these terms those conditions k other past h =
+    let long : length those ≡ length these = ap (λ (l : List (List Mark)). length l) other.each ∙ length-map (terms_in these) (condition_of problem) ∙ length-map these term_of in
+    asked-whole problem whole others these terms those conditions other (rw (take_all k these (omega (arith, long))) at h)
+
+abbrev pub no_term : Term
+no_term = record { input = record { 0 = 0 }; winner = record { 0 = 0 }; loser = record { 0 = 0 } }

@@ -1,6 +1,7 @@
 //! What the classes of a prefix ask of a ranking, without what earlier classes ask already.
 
 ghost use Rattle.std.specs.Prelude.{◌≡◌, ◌<◌, List, [], ◌∷◌, ◌++◌, length, take, true, OnOk};
+ghost use Rattle.ot_theory.specs.Problems as problems;
 ghost use Rattle.ot_theory.specs.Languages as theory;
 ghost use Rattle.ot_theory.specs.Languages.{classes_at, terms_of_class};
 ghost use Rattle.ot_theory.specs.Reductions.{IsImplied, IsStronger};
@@ -58,6 +59,35 @@ impl Asked {
         Ok(())
     }
 
+    /// Adds all terms of another list behind these.
+    pub fn append(&mut self, other: &Asked) -> Result<(), NoMemory>
+        ensures asked { OnOk result ((p : problems.Problem) (whole others : List theory.Term) → AreAsked p whole self.old.terms.items self.old.conditions.items → AreAsked p others other.now.terms.items other.now.conditions.items
+            → AreAsked p (whole ++ others) self.new.terms.items self.new.conditions.items) }
+        ensures terms { OnOk result (Begins self.old.terms.items self.new.terms.items) }
+        ensures conditions { OnOk result (Begins self.old.conditions.items self.new.conditions.items) }
+    {
+        push_terms(&mut self.terms, other.terms.as_slice())?;
+        push_conditions(&mut self.conditions, other.conditions.as_slice())
+    }
+
+    /// Adds the terms of another list behind these, without those whose conditions these imply.
+    pub fn append_needed(&mut self, other: &Asked) -> Result<(), NoMemory>
+        ensures asked { OnOk result ((p : problems.Problem) (whole others : List theory.Term) → AreAsked p whole self.old.terms.items self.old.conditions.items → AreAsked p others other.now.terms.items other.now.conditions.items
+            → AreAsked p (whole ++ others) self.new.terms.items self.new.conditions.items) }
+        ensures terms { OnOk result (Begins self.old.terms.items self.new.terms.items) }
+        ensures conditions { OnOk result (Begins self.old.conditions.items self.new.conditions.items) }
+    {
+        let kept = self.conditions.len();
+        for k in 0..other.terms.len().min(other.conditions.len()) {
+            let condition = other.conditions[k];
+            if !is_implied(self.conditions.as_slice(), 0, kept, &condition) {
+                push_term(&mut self.terms, other.terms[k])?;
+                push_condition(&mut self.conditions, condition)?;
+            }
+        }
+        Ok(())
+    }
+
     /// Adds a term, unless those from this place on imply its condition.
     fn add_term(&mut self, p: &Problem, term: Term, from: usize) -> Result<(), NoMemory>
         requires { is_term p.now (term_of term) ≡ true }
@@ -67,7 +97,7 @@ impl Asked {
         ensures conditions { OnOk result (Begins self.old.conditions.items self.new.conditions.items) }
     {
         let condition = condition_of(p, &term);
-        if is_implied(self.conditions.as_slice(), from, &condition) {
+        if is_implied(self.conditions.as_slice(), from, self.conditions.len(), &condition) {
             return Ok(());
         }
         push_term(&mut self.terms, term)?;
@@ -93,6 +123,24 @@ fn push_term(terms: &mut Vec<Term>, term: Term) -> Result<(), NoMemory>
     Ok(())
 }
 
+fn push_terms(terms: &mut Vec<Term>, more: &[Term]) -> Result<(), NoMemory>
+    ensures { OnOk result (terms.new.items ≡ terms.old.items ++ more.now) }
+{
+    match terms.extend_from_slice(more) {
+        Ok(()) => Ok(()),
+        Err(_) => Err(NoMemory),
+    }
+}
+
+fn push_conditions(conditions: &mut Vec<Condition>, more: &[Condition]) -> Result<(), NoMemory>
+    ensures { OnOk result (conditions.new.items ≡ conditions.old.items ++ more.now) }
+{
+    match conditions.extend_from_slice(more) {
+        Ok(()) => Ok(()),
+        Err(_) => Err(NoMemory),
+    }
+}
+
 fn push_condition(conditions: &mut Vec<Condition>, condition: Condition) -> Result<(), NoMemory>
     ensures { OnOk result (conditions.new.items ≡ conditions.old.items ++ condition ∷ []) }
 {
@@ -102,14 +150,14 @@ fn push_condition(conditions: &mut Vec<Condition>, condition: Condition) -> Resu
     Ok(())
 }
 
-/// Whether a condition has no L, or is weaker than one of some others from this place on.
-fn is_implied(conditions: &[Condition], from: usize, condition: &Condition) -> bool
+/// Whether a condition has no L, or is weaker than one of some others between these places.
+fn is_implied(conditions: &[Condition], from: usize, to: usize, condition: &Condition) -> bool
     ensures { result ≡ true → IsImplied conditions.now condition.now }
 {
     if condition.l_mask() == 0 {
         return true;
     }
-    for k in from..conditions.len() {
+    for k in from..to.min(conditions.len()) {
         if is_stronger(&conditions[k], condition) {
             return true;
         }

@@ -28,21 +28,47 @@ pub fn core_of(alloc: Global, p: &Problem, terms: &[Term]) -> Result<Contradicti
     ensures contradiction { IfOk result (λ core. IsTrue (is_contradiction p.now (terms_in core.terms))) }
     ensures needed { IfOk result (λ core. EachIsNeeded p.now (terms_in core.terms)) }
 {
-    let kept = kept_terms(alloc, p, terms)?;
+    core_of_conditions(alloc, p, terms, conditions_of(alloc, p, terms)?)
+}
+
+/// The same for terms whose conditions are at hand.
+pub fn core_of_conditions(
+    alloc: Global,
+    p: &Problem,
+    terms: &[Term],
+    conditions: Vec<Condition>,
+) -> Result<Contradiction, NoMemory>
+    requires genuine { IsTrue (are_terms p.now terms.now) }
+    requires one { IsTrue (one_winner_each (terms_in terms.now)) }
+    requires conditions { conditions.items ≡ map (condition_of p.now) (terms_in terms.now) }
+    requires widths { All (λ marks. length marks ≡ p.now.constraints) conditions.items }
+    requires hopeless { no_ranking_keeps p.now.constraints conditions.items ≡ true }
+    ensures certificate { IfOk result (λ core. terms_in core.terms ≡ certificate_of p.now (terms_in terms.now)) }
+    ensures contradiction { IfOk result (λ core. IsTrue (is_contradiction p.now (terms_in core.terms))) }
+    ensures needed { IfOk result (λ core. EachIsNeeded p.now (terms_in core.terms)) }
+{
+    let kept = kept_terms(alloc, p, terms, conditions)?;
     Contradiction::of(alloc, &kept)
 }
 
 /// The terms of the certificate.
-fn kept_terms(alloc: Global, p: &Problem, terms: &[Term]) -> Result<Vec<Term>, NoMemory>
+fn kept_terms(
+    alloc: Global,
+    p: &Problem,
+    terms: &[Term],
+    conditions: Vec<Condition>,
+) -> Result<Vec<Term>, NoMemory>
     requires genuine { IsTrue (are_terms p.now terms.now) }
     requires one { IsTrue (one_winner_each (terms_in terms.now)) }
-    requires hopeless { no_ranking_keeps p.now.constraints (map (condition_of p.now) (terms_in terms.now)) ≡ true }
+    requires conditions { conditions.items ≡ map (condition_of p.now) (terms_in terms.now) }
+    requires widths { All (λ marks. length marks ≡ p.now.constraints) conditions.items }
+    requires hopeless { no_ranking_keeps p.now.constraints conditions.items ≡ true }
     ensures certificate { IfOk result (λ kept. terms_in kept.items ≡ certificate_of p.now (terms_in terms.now)) }
     ensures contradiction { IfOk result (λ kept. IsTrue (is_contradiction p.now (terms_in kept.items))) }
     ensures needed { IfOk result (λ kept. EachIsNeeded p.now (terms_in kept.items)) }
 {
     let n = p.constraints();
-    let mut conditions = conditions_of(alloc, p, terms)?;
+    let mut conditions = conditions;
     let mut kept = Vec::new(alloc);
     while let Some(last) = move_last_needed(n, kept.len(), &mut conditions) {
         if kept.insert(0, terms[last]).is_err() {

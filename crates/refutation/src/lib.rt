@@ -23,7 +23,7 @@ mod typology;
 mod winners;
 
 pub use asked::Asked;
-pub use certificate::core_of;
+pub use certificate::{core_of, core_of_conditions};
 pub use contradiction::{Contradiction, fusion_of, is_genuine};
 pub use laws::genuine_refutes;
 pub use prefix::Prefix;

@@ -5,3 +5,4 @@ pub mod Indexed
 pub mod Places
 pub mod Below
 pub mod Walked
+pub mod Made

@@ -70,7 +70,7 @@ impl Index {
 }
 
 /// The greatest number of classes of an input.
-fn widest(p: &Problem) -> usize
+pub(crate) fn widest(p: &Problem) -> usize
     ensures wide { (i : ℕ) → i < length p.now.inputs → length (classes_at p.now i) ≤ result }
     ensures small { result ≤ CANDIDATE_LIMIT }
 {

@@ -15,6 +15,7 @@ mod finding;
 mod gathering;
 mod index;
 mod lexicographic;
+mod ready;
 mod search;
 #[cfg(test)]
 mod search_tests;

@@ -5,7 +5,7 @@ use Rattle.refutation.proofs.Fronts.{certified, needed, AreFront-end, AreFront-h
 use Rattle.refutation.proofs.certificate.kept_terms.Goals as goal
 
 pub loop-last-init : goal.loop-last-init
-loop-last-init c = AreFront-start c.args.p.now c.args.terms.now c.new-kept.result.items c.in_ok-conditions.conditions.items c.new-kept.ensures.items c.in_ok-conditions.ensures.conditions c.in_ok-conditions.ensures.widths c.requires.hopeless
+loop-last-init c = AreFront-start c.args.p.now c.args.terms.now c.new-kept.result.items c.args.conditions.items c.new-kept.ensures.items c.requires.conditions c.requires.widths (rw c.requires.conditions at c.requires.hopeless)
 
 pub move_last_needed-requires-clause-hopeless : goal.move_last_needed-requires-clause-hopeless
 move_last_needed-requires-clause-hopeless c =
@@ -21,6 +21,6 @@ returns c =
     let those = AreFront-end c.args.p.now c.args.terms.now c.loop-last.kept.items c.loop-last.conditions.items c.constraints-n.result c.len.result c.constraints-n.ensures.value (c.len.ensures ∙ c.loop-last.kept.ok.0) c.loop-last.invariant c.in_default.ensures.alone in
     record {
       certificate = those;
-      contradiction = certified c.args.p.now c.args.terms.now (terms_in c.loop-last.kept.items) c.requires.genuine c.requires.one c.requires.hopeless those;
+      contradiction = certified c.args.p.now c.args.terms.now (terms_in c.loop-last.kept.items) c.requires.genuine c.requires.one (rw c.requires.conditions at c.requires.hopeless) those;
       needed = needed c.args.p.now c.args.terms.now (terms_in c.loop-last.kept.items) those;
     }
