@@ -7,6 +7,7 @@ ghost use Rattle.refutation.specs.Typologies.{certificates_of, cuts_of, found_of
 ghost use Rattle.typology_core.specs.Gathered.{AreGenuine, AreNamed};
 ghost use Rattle.typology_core.specs.declared.search.TheConstants.{PLACE_LIMIT};
 
+use crate::ready::Ready;
 use crate::walk::{Found, Path, walk};
 use erc_vectors::NoMemory;
 use refutation::Typology;
@@ -39,9 +40,10 @@ pub fn search_alone(alloc: Global, p: &Problem, places: usize) -> Result<Alone, 
     ensures genuine { IfOk result (λ alone. AreGenuine p.now alone.typology.certificates) }
     ensures named { IfOk result (λ alone. AreNamed (length alone.typology.certificates) alone.typology.cuts) }
 {
+    let mut ready = Ready::new(alloc, p)?;
     let mut path = Path::start(alloc);
     let mut found = Found::nothing(alloc, p)?;
-    walk(alloc, p, &mut path, &mut found)?;
+    walk(alloc, p, &mut ready, &mut path, &mut found)?;
     let learns = found.learns(places);
     Ok(Alone {
         typology: Typology {

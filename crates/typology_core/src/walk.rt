@@ -2,22 +2,26 @@
 //!
 //! It finds the languages and the cuts in lexicographic order, and so it names the certificate of a cut when it comes to it.
 
-ghost use Rattle.std.specs.Prelude.{◌≡◌, ◌<◌, ◌≤◌, ◌+◌, ℕ, [], ◌∷◌, ◌++◌, length, true, false, take, IfOk, OnOk, IfSome, IfNone, All};
+ghost use Rattle.std.specs.Prelude.{◌≡◌, ◌<◌, ◌≤◌, ◌+◌, ℕ, List, [], ◌∷◌, ◌++◌, length, true, false, take, IfOk, OnOk, IfSome, IfNone, All};
 ghost use Rattle.ot_base.specs.declared.limits.TheConstants.{INPUT_LIMIT};
 ghost use Rattle.ot_theory.specs.Hierarchies.{IsLeastHierarchy};
-ghost use Rattle.ot_theory.specs.Languages.{classes_at, conditions_of, refuted};
+ghost use Rattle.ot_theory.specs.Languages as theory;
+ghost use Rattle.ot_theory.specs.Languages.{classes_at, conditions_of, refuted, terms_of_class};
+ghost use Rattle.refutation.specs.Asked.{AreAsked, Begins};
 ghost use Rattle.violation_profiles.specs.WellFormed.{IsPrefix};
 ghost use Rattle.refutation.specs.Prefixes.{class_numbers};
 ghost use Rattle.refutation.specs.Typologies.{certificates_of, cuts_of, found_of};
 ghost use Rattle.typology_core.specs.Gathered.{first_refuting};
+ghost use Rattle.typology_core.specs.Made.{AreMade};
 ghost use Rattle.typology_core.specs.Walked.{AreAllBelow, AreMore, IsDone, IsEntered, IsFoundOf, IsPathOf, IsReached, IsSamePath, IsSettled, IsToOpen, prefix_of};
 
 use crate::certified::place_of;
 use crate::index::Index;
 use demotion::least_hierarchy;
-use erc_vectors::{List, NoMemory, Strata};
+use crate::ready::Ready;
+use erc_vectors::{Condition, List, NoMemory, Strata};
 use ot_base::{ClassId, INPUT_LIMIT, InId};
-use refutation::{Asked, Contradiction, Cut, Language, Prefix, core_of};
+use refutation::{Asked, Contradiction, Cut, Language, Prefix, core_of_conditions};
 use std::alloc::Global;
 use violation_profiles::Problem;
 
@@ -41,9 +45,11 @@ pub(crate) struct Found {
 pub(crate) fn walk(
     alloc: Global,
     p: &Problem,
+    ready: &mut Ready,
     path: &mut Path,
     found: &mut Found,
 ) -> Result<(), NoMemory>
+    requires made { AreMade p.now ready.old }
     requires path { IsPathOf p.now path.old }
     requires fresh { first_refuting (certificates_of found.old.certificates) (prefix_of path.old) ≡ length found.old.certificates }
     requires found { IsFoundOf p.now found.old }
@@ -51,13 +57,20 @@ pub(crate) fn walk(
     ensures more { OnOk result ((n : ℕ) → length path.old.classes.items + n ≡ length p.now.inputs → AreAllBelow p.now n (prefix_of path.old) found.old found.new) }
 {
     if holds(alloc, p, path, found)? {
-        visit(alloc, p, path, found)?;
+        visit(alloc, p, ready, path, found)?;
     }
     Ok(())
 }
 
 /// Adds the languages and the cuts that extend a prefix which is not refuted and is no full choice.
-fn visit(alloc: Global, p: &Problem, path: &mut Path, found: &mut Found) -> Result<(), NoMemory>
+fn visit(
+    alloc: Global,
+    p: &Problem,
+    ready: &mut Ready,
+    path: &mut Path,
+    found: &mut Found,
+) -> Result<(), NoMemory>
+    requires made { AreMade p.now ready.old }
     requires path { IsPathOf p.now path.old }
     requires held { refuted p.now (prefix_of path.old) ≡ false }
     requires shorter { length path.old.classes.items < length p.now.inputs }
@@ -65,13 +78,14 @@ fn visit(alloc: Global, p: &Problem, path: &mut Path, found: &mut Found) -> Resu
     ensures found { OnOk result (IsFoundOf p.now found.new) }
     ensures more { OnOk result ((n : ℕ) → length path.old.classes.items + n ≡ length p.now.inputs → AreAllBelow p.now n (prefix_of path.old) found.old found.new) }
     ensures path { OnOk result (IsSamePath path.old path.new) }
+    ensures made { OnOk result (AreMade p.now ready.new) }
 {
     prove!(p.inputs() <= INPUT_LIMIT);
     let input = InId(path.classes.len() as u32);
     for a in 0..p.classes(input) {
         let terms = path.asked.terms.len();
-        if enter(alloc, p, ClassId(a as u16), path, found)? {
-            visit(alloc, p, path, found)?;
+        if enter(alloc, p, ClassId(a as u16), ready, path, found)? {
+            visit(alloc, p, ready, path, found)?;
             leave(path, input, terms);
         }
     }
@@ -118,9 +132,11 @@ fn enter(
     alloc: Global,
     p: &Problem,
     class: ClassId,
+    ready: &mut Ready,
     path: &mut Path,
     found: &mut Found,
 ) -> Result<bool, NoMemory>
+    requires made { AreMade p.now ready.old }
     requires path { IsPathOf p.now path.old }
     requires held { refuted p.now (prefix_of path.old) ≡ false }
     requires shorter { length path.old.classes.items < length p.now.inputs }
@@ -128,6 +144,7 @@ fn enter(
     requires found { IsFoundOf p.now found.old }
     ensures entered { IfOk result (λ entered. entered ≡ true → IsEntered p.now class.0 path.old path.new found.old found.new) }
     ensures settled { IfOk result (λ entered. entered ≡ false → IsDone p.now class.0 path.old path.new found.old found.new) }
+    ensures made { OnOk result (AreMade p.now ready.new) }
 {
     prove!(p.inputs() <= INPUT_LIMIT);
     let input = InId(path.classes.len() as u32);
@@ -138,14 +155,50 @@ fn enter(
         return Ok(false);
     }
     let terms = path.asked.terms.len();
-    path.asked.add(p, input, class, terms)?;
+    ready.make(alloc, p, input, class)?;
+    ask(p, ready, input, class, &mut path.asked)?;
     if holds(alloc, p, path, found)? {
         path.asked.forget(terms);
-        path.asked.add(p, input, class, 0)?;
+        ask_needed(p, ready, input, class, &mut path.asked)?;
         return Ok(true);
     }
     leave(path, input, terms);
     Ok(false)
+}
+
+/// Adds what a class of an input asks.
+fn ask(p: &Problem, ready: &Ready, input: InId, class: ClassId, asked: &mut Asked) -> Result<(), NoMemory>
+    requires input { input.0 < length p.now.inputs }
+    requires class { class.0 < length (classes_at p.now input.0) }
+    requires made { AreMade p.now ready.now }
+    ensures asked { OnOk result ((whole : List theory.Term) → AreAsked p.now whole asked.old.terms.items asked.old.conditions.items
+        → AreAsked p.now (whole ++ terms_of_class (classes_at p.now input.0) input.0 class.0) asked.new.terms.items asked.new.conditions.items) }
+    ensures terms { OnOk result (Begins asked.old.terms.items asked.new.terms.items) }
+    ensures conditions { OnOk result (Begins asked.old.conditions.items asked.new.conditions.items) }
+{
+    match ready.of(input, class) {
+        Some(more) => asked.append(more),
+        None => {
+            let from = asked.terms.len();
+            asked.add(p, input, class, from)
+        }
+    }
+}
+
+/// The same without what the others imply.
+fn ask_needed(p: &Problem, ready: &Ready, input: InId, class: ClassId, asked: &mut Asked) -> Result<(), NoMemory>
+    requires input { input.0 < length p.now.inputs }
+    requires class { class.0 < length (classes_at p.now input.0) }
+    requires made { AreMade p.now ready.now }
+    ensures asked { OnOk result ((whole : List theory.Term) → AreAsked p.now whole asked.old.terms.items asked.old.conditions.items
+        → AreAsked p.now (whole ++ terms_of_class (classes_at p.now input.0) input.0 class.0) asked.new.terms.items asked.new.conditions.items) }
+    ensures terms { OnOk result (Begins asked.old.terms.items asked.new.terms.items) }
+    ensures conditions { OnOk result (Begins asked.old.conditions.items asked.new.conditions.items) }
+{
+    match ready.of(input, class) {
+        Some(more) => asked.append_needed(more),
+        None => asked.add(p, input, class, 0),
+    }
 }
 
 fn go_on(classes: &mut Vec<ClassId>, class: ClassId) -> Result<(), NoMemory>
@@ -165,6 +218,15 @@ fn leave(path: &mut Path, input: InId, terms: usize)
 {
     path.classes.truncate(input.0 as usize);
     path.asked.forget(terms);
+}
+
+fn copied(alloc: Global, conditions: &[Condition]) -> Result<Vec<Condition>, NoMemory>
+    ensures { IfOk result (λ copy. copy.items ≡ conditions.now) }
+{
+    match Vec::from_slice(alloc, conditions) {
+        Ok(copy) => Ok(copy),
+        Err(_) => Err(NoMemory),
+    }
 }
 
 impl Path {
@@ -235,7 +297,8 @@ impl Found {
         ensures more { OnOk result (AreMore (prefix_of path.now ∷ []) [] self.old self.new) }
     {
         prove!(path.classes.len() <= p.inputs());
-        let certificate = core_of(alloc, p, path.asked.terms.as_slice())?;
+        let conditions = copied(alloc, path.asked.conditions.as_slice())?;
+        let certificate = core_of_conditions(alloc, p, path.asked.terms.as_slice(), conditions)?;
         let place = self.certificates.len();
         self.index.add(p, certificate.terms.as_slice(), place)?;
         self.certificates.push(certificate)?;

@@ -1,9 +1,9 @@
 -- The walk from the empty prefix finds all.
 use Rattle.typology_core.proofs.Whole.{IsWhole, walk-whole}
 use Rattle.typology_core.proofs.search.search_alone.Goals as goal
-use Rattle.typology_core.proofs.search.search_alone.Goals.{After-drop-path-4}
+use Rattle.typology_core.proofs.search.search_alone.Goals.{After-drop-ready-2}
 
-whole : (c : After-drop-path-4) → IsWhole c.args.p.now c.walk.new.found
+whole : (c : After-drop-ready-2) → IsWhole c.args.p.now c.walk.new.found
 whole c =
     walk-whole c.args.p.now c.start-path.result.classes.items c.in_ok-found.found c.walk.new.found c.start-path.ensures.classes c.in_ok-found.ensures.cuts c.in_ok-found.ensures.languages c.in_ok-walk.ensures.found c.in_ok-walk.ensures.more
 

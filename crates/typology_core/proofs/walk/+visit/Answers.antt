@@ -16,7 +16,8 @@ loop-a-preserved t c =
     elim c.if-branch.branch [
       | then-branch+in_ok-visit w ↦
           let entered = c.in_ok-enter.ensures.entered w.if-branch.true in
-          rw (w.path-is, w.found-is) (record {
+          rw (w.path-is, w.found-is, w.ready-is) (record {
+            made = w.in_ok-visit.ensures.made;
             sound = w.in_ok-visit.ensures.found;
             path = back-from problem start c.loop-a.path c.enter.new.path w.visit.new.path w.leave.new.path c.len.result c.len-terms.result (same-path problem start c.loop-a.path c.requires.path same) same
                 entered.classes entered.terms entered.conditions w.in_ok-visit.ensures.path (omega (arith, c.len.ensures, start.classes.ok.0)) (omega (arith, c.len-terms.ensures, c.loop-a.path.asked.terms.ok.0)) w.leave.ensures.classes w.leave.ensures.terms w.leave.ensures.conditions;
@@ -24,7 +25,8 @@ loop-a-preserved t c =
           })
       | else-branch w ↦
           let done = c.in_ok-enter.ensures.settled w.if-branch.false in
-          rw (w.path-is, w.found-is) (record {
+          rw (w.path-is, w.found-is, w.ready-is) (record {
+            made = c.in_ok-enter.ensures.made;
             sound = done.sound;
             path = same-trans start c.loop-a.path c.enter.new.path same done.stays;
             grown = λ n count. done-more problem n a start c.loop-a.path c.enter.new.path c.args.found.now c.loop-a.found c.enter.new.found same done count (c.loop-a.invariant.grown n count);

@@ -1,5 +1,6 @@
 use Rattle.std.proofs.Common.{◌≡◌, ◌+◌, ◌-◌, ℕ, flat_map, length}
 use Rattle.typology_core.specs.Below.{cuts_below, languages_below}
+use Rattle.typology_core.specs.Made.{AreMade}
 use Rattle.typology_core.specs.Walked.{AreMore, IsFoundOf, IsSamePath, prefix_of}
 use Rattle.typology_core.proofs.Children.{children_below}
 use Rattle.typology_core.proofs.walk.+visit.Given as goal
@@ -10,6 +11,7 @@ decreases-visit l = length l.p.now.inputs - length l.path.now.classes.items
 -- what extends the prefix by the classes so far
 abbrev pub invariant-loop-a : goal.invariant-loop-a
 invariant-loop-a l = record {
+  made : AreMade l.p l.ready;
   sound : IsFoundOf l.p l.found;
   path : IsSamePath l.initial.path l.path;
   grown : (n : ℕ) → length l.initial.path.classes.items + (n + 1) ≡ length l.p.inputs

@@ -44,7 +44,7 @@ holds-requires-clause-path c =
     let long : length (prefix_of path) ≡ c.len.result = omega (arith, length-map path.classes.items (λ (d : ClassId). d.0), c.len.ensures, path.classes.ok.0) in
     record {
       reached = rw now (path-child problem path c.args.class.0 c.requires.path c.requires.held c.requires.shorter c.requires.class);
-      asked = rw now (asked-child problem (prefix_of path) c.len.result c.args.class.0 c.add.new.self.terms.items c.add.new.self.conditions.items long (c.in_ok-add.ensures.asked (terms_of problem (prefix_of path)) c.requires.path.asked));
+      asked = rw now (asked-child problem (prefix_of path) c.len.result c.args.class.0 c.ask.new.asked.terms.items c.ask.new.asked.conditions.items long (c.in_ok-ask.ensures.asked (terms_of problem (prefix_of path)) c.requires.path.asked));
     }
 
 pub returns-then-branch-clause-entered : goal.returns-then-branch-clause-entered
@@ -55,19 +55,19 @@ returns-then-branch-clause-entered c e =
     let long : length (prefix_of path) ≡ c.len.result = omega (arith, length-map path.classes.items (λ (d : ClassId). d.0), c.len.ensures, path.classes.ok.0) in
     let opened = c.in_ok-holds.ensures.opened c.if-branch.true in
     let count : c.len-terms.result ≡ length path.asked.terms.items = omega (arith, c.len-terms.ensures, path.asked.terms.ok.0) in
-    let terms : c.forget.new.self.terms.items ≡ path.asked.terms.items = c.forget.ensures.terms ∙ take-front c.len-terms.result path.asked.terms.items c.add.new.self.terms.items count c.in_ok-add.ensures.terms in
+    let terms : c.forget.new.self.terms.items ≡ path.asked.terms.items = c.forget.ensures.terms ∙ take-front c.len-terms.result path.asked.terms.items c.ask.new.asked.terms.items count c.in_ok-ask.ensures.terms in
     let conditions : c.forget.new.self.conditions.items ≡ path.asked.conditions.items =
-        c.forget.ensures.conditions ∙ take-front c.len-terms.result path.asked.conditions.items c.add.new.self.conditions.items (count ∙ sym (length-conditions problem path c.requires.path)) c.in_ok-add.ensures.conditions in
+        c.forget.ensures.conditions ∙ take-front c.len-terms.result path.asked.conditions.items c.ask.new.asked.conditions.items (count ∙ sym (length-conditions problem path c.requires.path)) c.in_ok-ask.ensures.conditions in
     record {
       here = record {
         reached = rw now (path-child problem path c.args.class.0 c.requires.path c.requires.held c.requires.shorter c.requires.class);
-        asked = rw now (asked-child problem (prefix_of path) c.len.result c.args.class.0 c.add-then-branch.new.self.terms.items c.add-then-branch.new.self.conditions.items long (c.in_ok-add-2.ensures.asked (terms_of problem (prefix_of path)) (rw (terms, conditions) c.requires.path.asked)));
+        asked = rw now (asked-child problem (prefix_of path) c.len.result c.args.class.0 c.ask_needed.new.asked.terms.items c.ask_needed.new.asked.conditions.items long (c.in_ok-ask_needed.ensures.asked (terms_of problem (prefix_of path)) (rw (terms, conditions) c.requires.path.asked)));
       };
       prefix = now;
       classes = record { rest = c.args.class ∷ []; whole = c.in_ok-go_on.ensures };
       long = ap (λ (l : List ClassId). length l) c.in_ok-go_on.ensures ∙ length-append path.classes.items (c.args.class ∷ []);
-      terms = rw terms at c.in_ok-add-2.ensures.terms;
-      conditions = rw conditions at c.in_ok-add-2.ensures.conditions;
+      terms = rw terms at c.in_ok-ask_needed.ensures.terms;
+      conditions = rw conditions at c.in_ok-ask_needed.ensures.conditions;
       opened = record { held = opened.held; shorter = opened.shorter; kept = opened.kept };
     }
 
@@ -78,10 +78,10 @@ returns-clause-settled c e =
     let now : class_numbers c.go_on.new.classes.items ≡ prefix_of path ++ c.args.class.0 ∷ [] = child-of path c.go_on.new.classes.items c.go_on.new.classes.items c.args.class c.in_ok-go_on.ensures refl in
     let longer : length c.go_on.new.classes.items ≡ length path.classes.items + 1 = ap (λ (l : List ClassId). length l) c.in_ok-go_on.ensures ∙ length-append path.classes.items (c.args.class ∷ []) in
     let settled = c.in_ok-holds.ensures.settled c.if-branch.false in
-    let child : Path = record { classes = c.go_on.new.classes; asked = c.add.new.self } in
+    let child : Path = record { classes = c.go_on.new.classes; asked = c.ask.new.asked } in
     record {
       stays = back-from problem path path child child c.leave.new.path c.len.result c.len-terms.result c.requires.path (record { classes = refl; terms = refl; conditions = refl })
-          (record { rest = c.args.class ∷ []; whole = c.in_ok-go_on.ensures }) c.in_ok-add.ensures.terms c.in_ok-add.ensures.conditions (record { classes = refl; terms = refl; conditions = refl })
+          (record { rest = c.args.class ∷ []; whole = c.in_ok-go_on.ensures }) c.in_ok-ask.ensures.terms c.in_ok-ask.ensures.conditions (record { classes = refl; terms = refl; conditions = refl })
           (omega (arith, c.len.ensures, path.classes.ok.0)) (omega (arith, c.len-terms.ensures, path.asked.terms.ok.0)) c.leave.ensures.classes c.leave.ensures.terms c.leave.ensures.conditions;
       sound = settled.sound;
       below = λ n count. rw now at (settled.below n (omega (arith, longer, count)));
