@@ -51,10 +51,23 @@ impl Text {
         }
     }
 
+    /// One byte.
+    fn byte(&mut self, byte: u8) -> Result<(), NoMemory>
+        ensures { OnOk result (self.new ≡ self.old ++ byte ∷ []) }
+    {
+        match self.bytes.push(byte) {
+            Ok(()) => Ok(()),
+            Err(_) => Err(NoMemory),
+        }
+    }
+
     /// A number in decimal.
     pub(crate) fn number(&mut self, n: usize) -> Result<(), NoMemory>
         ensures { OnOk result (self.new ≡ self.old ++ decimal n) }
     {
+        if n < 10 {
+            return self.byte(b'0' + n as u8);
+        }
         let mut buffer = Buffer::new();
         let digits = buffer.format(n);
         self.put(digits.as_bytes())
@@ -71,7 +84,9 @@ impl Text {
     pub(crate) fn spaced_number(&mut self, first: bool, n: usize) -> Result<(), NoMemory>
         ensures { OnOk result (self.new ≡ self.old ++ ((if first then [] else 32 ∷ []) ++ decimal n)) }
     {
-        self.separator(first, b" ")?;
+        if !first {
+            self.byte(b' ')?;
+        }
         self.number(n)
     }
 
