@@ -17,15 +17,15 @@ use Rattle.ot_theory.proofs.Parts.{found, any-at_positions}
 use Rattle.ot_theory.proofs.Demotion.{KeepsOpen, IsStuck, blocked-open, open-unplaced}
 
 -- what a filter leaves of a range
-record OfRange (p : ℕ → Bool) (a n x : ℕ) : Type 0 where
-  from : a ≤ x
-  below : x < a + n
-  passes : p x ≡ true
+pub record OfRange (p : ℕ → Bool) (a n x : ℕ) : Type 0 where
+  pub from : a ≤ x
+  pub below : x < a + n
+  pub passes : p x ≡ true
 
 wider : (p : ℕ → Bool) (a n x : ℕ) → OfRange p (a + 1) n x → OfRange p a (suc n) x
 wider p a n x h = record { from = omega (arith, h.from); below = omega (arith, h.below); passes = h.passes }
 
-of_range : (p : ℕ → Bool) (a n : ℕ) → (k d : ℕ) → k < length (filter p (range_with_len a n)) → OfRange p a n (get_or (filter p (range_with_len a n)) k d)
+pub of_range : (p : ℕ → Bool) (a n : ℕ) → (k d : ℕ) → k < length (filter p (range_with_len a n)) → OfRange p a n (get_or (filter p (range_with_len a n)) k d)
 of_range p a zero k d b = absurd (omega arith)
 of_range p a (suc n) k d b = by (filter p (range_with_len (a + 1) n)) (λ j c. of_range p (a + 1) n j d c) (p a) refl k b
   where
@@ -44,7 +44,7 @@ rising p a (suc n) i j h b = by (filter p (range_with_len (a + 1) n)) (λ k c. (
     by rest above later true (suc x) (suc y) g c = later x y (omega arith) (omega arith)
     by rest above later false x y g c = later x y g c
 
-in_range : (p : ℕ → Bool) (a n x : ℕ) → OfRange p a n x → Contains (filter p (range_with_len a n)) x
+pub in_range : (p : ℕ → Bool) (a n x : ℕ) → OfRange p a n x → Contains (filter p (range_with_len a n)) x
 in_range p a zero x h = absurd (omega (arith, h.from, h.below))
 in_range p a (suc n) x h = elim (eqb_tells a x) [
   | inl same ↦ rw (ap p same.1 ∙ h.passes) (0, omega arith, same.1)
