@@ -13,6 +13,6 @@ mod shared;
 #[cfg(test)]
 mod tests;
 
-pub use demoted::{Demoted, demote, least_hierarchy};
+pub use demoted::{Demoted, demote, least_hierarchy, open_flags};
 pub use order::order_of;
 pub use shared::demoted_goes;

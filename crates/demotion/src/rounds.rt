@@ -7,6 +7,7 @@ ghost use Rattle.ot_theory.specs.Rankings.{count_of};
 ghost use Rattle.ot_theory.specs.Hierarchies.{IsLeastHierarchy};
 ghost use Rattle.ot_theory.specs.Demotion.{is_closed, is_blocked, level_after, open_positions, AreLeftOpen};
 ghost use Rattle.ot_theory.specs.Refutations.{no_ranking_keeps};
+ghost use Rattle.ot_theory.proofs.Resuming.{IsGuarded};
 ghost use Rattle.demotion.specs.Placed.{levels_of, has_bit};
 
 use erc_vectors::{ConId, Condition, LIMIT, Mark};
@@ -19,6 +20,7 @@ pub(crate) fn place_in_rounds(levels: &mut [u8], set: &[Condition])
     ensures ranked { All (λ level. 1 ≤ level) levels.new → (no_ranking_keeps (length levels.old) set.now ≡ false) × IsLeastHierarchy (length levels.old) set.now levels.new }
     ensures stuck { Contains levels.new 0 → no_ranking_keeps (length levels.old) set.now ≡ true }
     ensures left_open { Contains levels.new 0 → AreLeftOpen (length levels.old) set.now (open_positions levels.new set.now) }
+    ensures guarded { All (IsGuarded levels.new) set.now }
 {
     let mut left = levels.len();
     let mut placed = 0;

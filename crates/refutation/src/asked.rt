@@ -104,6 +104,15 @@ impl Asked {
         push_condition(&mut self.conditions, condition)
     }
 
+    /// Adds a term and its condition.
+    pub(crate) fn keep(&mut self, term: Term, condition: Condition) -> Result<(), NoMemory>
+        ensures terms { OnOk result (self.new.terms.items ≡ self.old.terms.items ++ term ∷ []) }
+        ensures conditions { OnOk result (self.new.conditions.items ≡ self.old.conditions.items ++ condition ∷ []) }
+    {
+        push_term(&mut self.terms, term)?;
+        push_condition(&mut self.conditions, condition)
+    }
+
     /// Drops the terms behind the first ones.
     pub fn forget(&mut self, kept: usize)
         ensures terms { self.new.terms.items ≡ take kept self.old.terms.items }

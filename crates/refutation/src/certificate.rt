@@ -3,15 +3,17 @@
 //! The last term that it keeps ends the shortest front of the terms that no ranking keeps, beside those kept so far; so each is
 //! found by halving, and the terms behind it are dropped at once.
 
-ghost use Rattle.std.specs.Prelude.{◌≡◌, ◌+◌, ◌<◌, ◌≤◌, ◌∷◌, IsTrue, IfOk, IfNone, IfSome, All, length, map, slice_index_or, take, true, false, []};
+ghost use Rattle.std.specs.Prelude.{◌≡◌, ◌+◌, ◌<◌, ◌≤◌, ◌∷◌, IsTrue, IfOk, OnOk, IfNone, IfSome, All, length, map, slice_index_or, take, true, false, []};
 ghost use Rattle.ot_theory.specs.Languages.{condition_of};
 ghost use Rattle.ot_theory.specs.Refutations.{one_winner_each, no_ranking_keeps, is_contradiction, certificate_of, EachIsNeeded};
 ghost use Rattle.erc_vectors.specs.declared.condition.TheConstants.{LIMIT};
+ghost use Rattle.refutation.specs.Asked.{AreKept};
 ghost use Rattle.refutation.specs.Terms.{are_terms, terms_in};
 
 use crate::contradiction::Contradiction;
 use crate::term::{Term, conditions_of};
-use demotion::least_hierarchy;
+use crate::asked::Asked;
+use demotion::{least_hierarchy, open_flags};
 use erc_vectors::{Condition, LIMIT, List, NoMemory};
 use std::alloc::Global;
 use violation_profiles::Problem;
@@ -47,8 +49,31 @@ pub fn core_of_conditions(
     ensures contradiction { IfOk result (λ core. IsTrue (is_contradiction p.now (terms_in core.terms))) }
     ensures needed { IfOk result (λ core. EachIsNeeded p.now (terms_in core.terms)) }
 {
-    let kept = kept_terms(alloc, p, terms, conditions)?;
+    let flags = open_flags(alloc, p.constraints(), &conditions)?;
+    let mut asked = Asked::nothing(alloc);
+    keep_open(&mut asked, terms, &conditions, flags.as_slice())?;
+    let Asked {
+        terms: open_terms,
+        conditions: open_conditions,
+    } = asked;
+    let kept = kept_terms(alloc, p, open_terms.as_slice(), open_conditions)?;
     Contradiction::of(alloc, &kept)
+}
+
+/// Puts the terms with a flag, and their conditions, into the lists.
+fn keep_open(asked: &mut Asked, terms: &[Term], conditions: &[Condition], flags: &[bool]) -> Result<(), NoMemory>
+    requires terms { asked.old.terms.items ≡ [] }
+    requires conditions { asked.old.conditions.items ≡ [] }
+    requires long { length flags.now ≡ length terms.now }
+    requires as_long { length conditions.now ≡ length terms.now }
+    ensures kept { OnOk result (AreKept terms.now conditions.now flags.now asked.new.terms.items asked.new.conditions.items) }
+{
+    for k in 0..terms.len() {
+        if flags[k] {
+            asked.keep(terms[k], conditions[k])?;
+        }
+    }
+    Ok(())
 }
 
 /// The terms of the certificate.

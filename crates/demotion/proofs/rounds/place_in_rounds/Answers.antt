@@ -45,3 +45,11 @@ loop-round-preserved c = record {
 
 pub returns-clause-ranked : goal.returns-clause-ranked
 returns-clause-ranked c = ranked-rounds _ _ _ _ c.requires.widths c.loop-round.invariant.rounds
+
+pub returns-then-count-eq0-clause-guarded : goal.returns-then-count-eq0-clause-guarded
+returns-then-count-eq0-clause-guarded c =
+    let round = IsRound-masked _ _ _ _ _ _ _ c.requires.small c.loop-round.auto.levels c.place_free-count.auto.levels c.requires.widths c.loop-round.invariant.mask c.blocked_by-blocked.ensures c.place_free-count.ensures.each in
+    (AreRounds-more _ _ _ _ _ c.requires.widths round c.loop-round.invariant.rounds).guarded
+
+pub returns-clause-guarded : goal.returns-clause-guarded
+returns-clause-guarded c = c.loop-round.invariant.rounds.guarded
