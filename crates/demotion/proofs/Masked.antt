@@ -1,5 +1,5 @@
 -- Closed and blocked, by masks of the placed constraints.
-use Rattle.std.proofs.Common.{◌≡◌, ◌≢◌, ◌⊎◌, ℕ, zero, suc, ◌+◌, ◌-◌, ◌^◌, ◌<◌, ◌≤◌, min, max, List, [], ◌∷◌, Bool, true, false, not, ◌&&◌, ◌||◌, ◌==◌, cond, length, take, map, get_or, slice_index, arith, refl, sym, ap, ◌∙◌, inl, inr}
+use Rattle.std.proofs.Common.{◌++◌, ◌≡◌, ◌≢◌, ◌⊎◌, ℕ, zero, suc, ◌+◌, ◌-◌, ◌^◌, ◌<◌, ◌≤◌, min, max, List, [], ◌∷◌, Bool, true, false, not, ◌&&◌, ◌||◌, ◌==◌, cond, length, take, map, get_or, slice_index, arith, refl, sym, ap, ◌∙◌, inl, inr}
 use Rattle.std.specs.Prelude.{bit_and, bit_or, nat_lt, All}
 use Rattle.std.specs.List.{list_any, range_with_len}
 use Rattle.std.specs.Int.{bit_at, bit_not, w64, trailing_zeros}
@@ -8,16 +8,17 @@ use Rattle.std.proofs.lemmas.Bool.Decides.{eqb_tells}
 use Rattle.std.proofs.lemmas.List.Elements.{All-head, All-tail}
 use Rattle.std.proofs.lemmas.List.Folds.{list_any_more}
 use Rattle.std.proofs.lemmas.List.FromFn.{get_or-map-range_with_len}
+use Rattle.std.proofs.lemmas.List.{map_more}
 use Rattle.std.proofs.lemmas.Nat.{and_le_l}
 use Rattle.std.proofs.lemmas.Nat.Bits.{bit_at-lt, bit_at_and, bit_at_or, bit_at_not, bit_at-zero, bit_at-trailing_zeros}
 use Rattle.ot_theory.specs.declared.Mark.{Mark}
 use Rattle.ot_theory.specs.declared.Mark.TheVariants.{W, L, E}
 use Rattle.ot_theory.specs.Conditions.{is_win, is_loss, mark_at}
-use Rattle.ot_theory.specs.Demotion.{is_closed, is_blocked, level_after}
+use Rattle.ot_theory.specs.Demotion.{is_closed, is_blocked, is_open, level_after}
 use Rattle.ot_theory.proofs.Demotion.{PlacedWin, closed-placed, IsRound}
 use Rattle.ot_theory.proofs.Strata.{range-any, mark_at-within, is_win-true}
 use Rattle.erc_vectors.specs.Masks.{IsMask}
-use Rattle.erc_vectors.proofs.Bits.{bit_true}
+use Rattle.erc_vectors.proofs.Bits.{any-mask, bit_true}
 use Rattle.demotion.specs.Placed.{levels_of, flags_of, has_bit}
 
 pub level-bit : (mask c : ℕ) → c < 64 → slice_index (levels_of mask) c ≡ bit_at mask c
@@ -160,3 +161,27 @@ IsRound-masked n given mask blocked set old new few long same widths m b each = 
 -- at first none is placed
 pub placed-none : (levels : List ℕ) → All (λ level. level ≡ 0) levels → (c : ℕ) → c < length levels → bit_at 0 c ≡ cond (nat_lt 0 (slice_index levels c)) 1 0
 placed-none levels none c below = let z : slice_index levels c ≡ 0 = none c 0 below in bit_at-zero c ∙ rw z refl
+
+-- Open by the mask is open by the numbers.
+pub open-same : (n mask : ℕ) (levels : List ℕ) (set : List (List Mark)) → n ≤ 64 → All (λ marks. length marks ≡ n) set → ((c : ℕ) → c < n → bit_at mask c ≡ cond (nat_lt 0 (slice_index levels c)) 1 0) → map (is_open (levels_of mask)) set ≡ map (is_open levels) set
+open-same n mask levels [] few widths m = refl
+open-same n mask levels (marks ∷ set) few widths m =
+    let here = closed-same levels (levels_of mask) n marks (All-head (λ x. length x ≡ n) marks set widths) (placed-same n mask levels few m) in
+    let later = open-same n mask levels set few (All-tail (λ x. length x ≡ n) marks set widths) m in
+    rw (here, later) refl
+
+pub open-mask : (marks : List Mark) (w l placed : ℕ) → length marks ≤ 64 → w < 2 ^ 64 → l < 2 ^ 64 → IsMask is_win marks w → IsMask is_loss marks l → (not (l == 0) && (bit_and w placed == 0)) ≡ is_open (levels_of placed) marks
+open-mask marks w l placed short small low p q =
+    rw (any-mask is_loss marks l refl low q, closed-mask marks w placed short small p) (by (not (l == 0)) (bit_and w placed == 0))
+  where
+    by : (a b : Bool) → (a && b) ≡ (a && not (not b))
+    by true true = refl
+    by true false = refl
+    by false b = refl
+
+pub open-lossless : (marks : List Mark) (l placed : ℕ) → l < 2 ^ 64 → IsMask is_loss marks l → l ≡ 0 → false ≡ is_open (levels_of placed) marks
+open-lossless marks l placed low q none = rw (any-mask is_loss marks l refl low q, none) refl
+
+pub flags-more : (levels : List ℕ) (set : List (List Mark)) (k : ℕ) (marks : List Mark) (old new : List Bool) (flag : Bool) → k < length set → marks ≡ get_or set k marks → flag ≡ is_open levels marks → old ≡ map (is_open levels) (take k set) → new ≡ old ++ flag ∷ [] → new ≡ map (is_open levels) (take (k + 1) set)
+flags-more levels set k marks old new flag below here f e pushed =
+    pushed ∙ ap (λ (l : List Bool). l ++ flag ∷ []) e ∙ ap (λ (b : Bool). map (is_open levels) (take k set) ++ b ∷ []) (f ∙ ap (is_open levels) here) ∙ sym (map_more (is_open levels) set k marks below)

@@ -4,6 +4,7 @@ ghost use Rattle.ot_theory.specs.Conditions.{is_loss};
 ghost use Rattle.ot_theory.specs.Hierarchies.{IsLeastHierarchy};
 ghost use Rattle.ot_theory.specs.Demotion.{is_open, open_positions, AreLeftOpen};
 ghost use Rattle.ot_theory.specs.Refutations.{no_ranking_keeps};
+ghost use Rattle.demotion.specs.Placed.{levels_of};
 ghost use Rattle.demotion.specs.Outcomes.{AreFlags, IfRanked, IfStuck};
 
 use crate::rounds::{is_closed, place_in_rounds};
@@ -68,19 +69,27 @@ fn flags_in(alloc: Global, levels: &mut [u8], set: &[Condition]) -> Result<List<
     requires widths { All (λ marks. length marks ≡ length levels.old) set.now }
     ensures { IfOk result (λ flags. AreFlags set.now flags) }
 {
-    place_in_rounds(levels, set);
-    flags_of(alloc, levels, set)
+    let placed = place_in_rounds(levels, set);
+    flags_of(alloc, placed, set)
 }
 
-fn flags_of(alloc: Global, levels: &[u8], set: &[Condition]) -> Result<List<bool>, NoMemory>
-    requires { All (λ marks. length marks ≡ length levels.now) set.now }
-    ensures { IfOk result (λ flags. flags ≡ map (is_open levels.now) set.now) }
+fn flags_of(alloc: Global, placed: u64, set: &[Condition]) -> Result<List<bool>, NoMemory>
+    requires { All (λ marks. length marks ≤ LIMIT) set.now }
+    ensures { IfOk result (λ flags. flags ≡ map (is_open (levels_of placed)) set.now) }
 {
     let mut flags = List::new(alloc);
     for condition in set {
-        flags.push(is_open(levels, condition))?;
+        flags.push(opens(placed, condition))?;
     }
     Ok(flags)
+}
+
+/// Whether a condition is open where these constraints are placed.
+fn opens(placed: u64, condition: &Condition) -> bool
+    requires { length condition.now ≤ LIMIT }
+    ensures { result ≡ is_open (levels_of placed) condition.now }
+{
+    condition.l_mask() != 0 && condition.w_mask() & placed == 0
 }
 
 /// The hierarchy that demotion builds from no placed constraint, if it places all.

@@ -1,7 +1,7 @@
 //! Demotion in rounds, with the stratum numbers as its state, 0 for a constraint that is not placed yet, and the placed
 //! constraints as the bits of a mask. So a condition is closed where it has a W in common with that mask.
 
-ghost use Rattle.std.specs.Prelude.{◌≡◌, ℕ, ◌+◌, ◌<◌, ◌≤◌, true, false, length, slice_index, EachIndex, All, Contains, if◌then◌else◌};
+ghost use Rattle.std.specs.Prelude.{◌≡◌, ℕ, ◌+◌, ◌<◌, ◌≤◌, true, false, length, slice_index, nat_lt, EachIndex, All, Contains, if◌then◌else◌};
 ghost use Rattle.std.specs.Int.{bit_at};
 ghost use Rattle.ot_theory.specs.Rankings.{count_of};
 ghost use Rattle.ot_theory.specs.Hierarchies.{IsLeastHierarchy};
@@ -12,8 +12,9 @@ ghost use Rattle.demotion.specs.Placed.{levels_of, has_bit};
 
 use erc_vectors::{ConId, Condition, LIMIT, Mark};
 
-/// Places the constraints in rounds, the free ones of each round in the next stratum, until none that is left is free.
-pub(crate) fn place_in_rounds(levels: &mut [u8], set: &[Condition])
+/// Places the constraints in rounds, the free ones of each round in the next stratum, until none that is left is free. Answers
+/// the placed constraints, as bits.
+pub(crate) fn place_in_rounds(levels: &mut [u8], set: &[Condition]) -> u64
     requires small { length levels.old ≤ LIMIT }
     requires unplaced { All (λ level. level ≡ 0) levels.old }
     requires widths { All (λ marks. length marks ≡ length levels.old) set.now }
@@ -21,18 +22,20 @@ pub(crate) fn place_in_rounds(levels: &mut [u8], set: &[Condition])
     ensures stuck { Contains levels.new 0 → no_ranking_keeps (length levels.old) set.now ≡ true }
     ensures left_open { Contains levels.new 0 → AreLeftOpen (length levels.old) set.now (open_positions levels.new set.now) }
     ensures guarded { All (IsGuarded levels.new) set.now }
+    ensures placed { (c : ℕ) → c < length levels.old → bit_at result c ≡ (if nat_lt 0 (slice_index levels.new c) then 1 else 0) }
 {
     let mut left = levels.len();
     let mut placed = 0;
     for round in 0..levels.len() {
         let blocked = blocked_by(placed, set);
         let count = place_free(levels, blocked, round as u8 + 1);
+        placed |= !blocked;
         left -= count;
         if count == 0 || left == 0 {
-            return;
+            return placed;
         }
-        placed |= !blocked;
     }
+    placed
 }
 
 /// The constraints at which a condition has L of whose W's none is placed.

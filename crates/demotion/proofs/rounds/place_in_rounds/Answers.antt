@@ -53,3 +53,8 @@ returns-then-count-eq0-clause-guarded c =
 
 pub returns-clause-guarded : goal.returns-clause-guarded
 returns-clause-guarded c = c.loop-round.invariant.rounds.guarded
+
+pub returns-then-count-eq0-clause-placed : goal.returns-then-count-eq0-clause-placed
+returns-then-count-eq0-clause-placed c = λ k below.
+    placed-more _ _ _ _ c.args.set.now c.loop-round.levels _ c.requires.small (omega arith) (omega arith) (omega arith) c.loop-round.invariant.mask c.blocked_by-blocked.ensures
+    (λ d b. c.place_free-count.ensures.each d (omega (arith, c.place_free-count.auto.levels, c.loop-round.auto.levels))) k below
