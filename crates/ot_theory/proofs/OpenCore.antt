@@ -1,14 +1,14 @@
 -- The certificate of terms is that of those whose conditions demotion leaves open.
-use Rattle.std.proofs.Common.{◌≡◌, ◌⊎◌, ℕ, zero, suc, ◌+◌, ◌<◌, ◌≤◌, List, [], ◌∷◌, ◌++◌, Bool, true, false, not, ◌&&◌, arith, refl, sym, ◌∙◌, ap, cond, inl, inr, length, get_or, map, append_assoc, length-append}
+use Rattle.std.proofs.Common.{◌≡◌, ℕ, zero, suc, ◌+◌, ◌<◌, List, [], ◌∷◌, ◌++◌, Bool, true, false, not, ◌&&◌, arith, refl, sym, ◌∙◌, ap, cond, inl, inr, length, get_or, map, append_assoc, length-append}
 use Rattle.std.specs.Prelude.{All, filter}
-use Rattle.std.specs.List.{list_all, list_any, range_with_len}
-use Rattle.std.proofs.lemmas.Bool.{and_parts, and_from, cases_Bool, not-true, not-false, false_from_ne_true, or_cases, or_left, or_right}
-use Rattle.std.proofs.lemmas.List.{append-nil, map-append}
+use Rattle.std.specs.List.{list_any, range_with_len}
+use Rattle.std.proofs.lemmas.Bool.{and_parts, and_from, not-true, false_from_ne_true, or_cases, or_left, or_right}
+use Rattle.std.proofs.lemmas.List.{map-append}
 use Rattle.std.proofs.lemmas.List.Elements.{All-nil, All-cons, All-head, All-tail, filter-append}
 use Rattle.ot_theory.specs.declared.Mark.{Mark}
 use Rattle.ot_theory.specs.declared.Mark.TheVariants.{W, L, E}
 use Rattle.ot_theory.specs.Rankings.{numbers_below}
-use Rattle.ot_theory.specs.Conditions.{mark_at, is_win, is_loss, fused, fusion, is_contradictory}
+use Rattle.ot_theory.specs.Conditions.{mark_at, is_win, is_loss, fusion, is_contradictory}
 use Rattle.ot_theory.specs.Demotion.{is_closed, is_open, at_positions, StaysOpen}
 use Rattle.ot_theory.specs.Problems.{Problem}
 use Rattle.ot_theory.specs.Languages.{Term, condition_of}
@@ -17,9 +17,9 @@ use Rattle.ot_theory.proofs.Enumeration.{any-map}
 use Rattle.ot_theory.proofs.Strata.{any-range, range-any}
 use Rattle.ot_theory.proofs.Hopeless.{fused_at, hopeless-fused}
 use Rattle.ot_theory.proofs.Sets.{is_hopeless, no_ranking_keeps-more, IsPart-between, IsPart-filter}
-use Rattle.ot_theory.proofs.ContradictoryParts.{ContradictoryPart, contradictory-part}
+use Rattle.ot_theory.proofs.ContradictoryParts.{contradictory-part}
 use Rattle.ot_theory.proofs.Deletion.{push_between, kept_of-passes}
-use Rattle.ot_theory.proofs.LeftOpen.{in_range, OfRange, of_range}
+use Rattle.ot_theory.proofs.LeftOpen.{in_range, of_range}
 use Rattle.ot_theory.proofs.Resuming.{IsGuarded, KeepsOpen-guarded}
 
 -- those of a set that pass a test and have an L
@@ -74,11 +74,11 @@ contradictory-losses n test set h =
     (any-map is_loss (fused_at (filter (with_loss test) set)) (numbers_below n)
     ∙ range-any (λ c. is_loss (fused_at (filter (with_loss test) set) c)) 0 n some.it (omega arith) (omega (arith, some.below)) (loss-same _ _ _ _ (any-with_loss test set some.it) some.passes))
     (ap not (false_from_ne_true _ (λ win.
-      let r = any-range (λ c. is_win (fused_at (filter (with_loss test) set) c)) 0 n (sym (any-map is_win (fused_at (filter (with_loss test) set)) (numbers_below n)) ∙ win) in
-      let wins : list_any is_win (fusion n (filter test set)) ≡ true =
-          any-map is_win (fused_at (filter test set)) (numbers_below n) ∙ range-any (λ c. is_win (fused_at (filter test set) c)) 0 n r.it (omega arith) (omega (arith, r.below)) (fused-same _ _ _ _ (any-with_loss test set r.it) (any-fewer test set r.it) r.passes) in
-      let no : true ≡ false = sym wins ∙ not-true _ parts.1 in
-      cc)))
+    let r = any-range (λ c. is_win (fused_at (filter (with_loss test) set) c)) 0 n (sym (any-map is_win (fused_at (filter (with_loss test) set)) (numbers_below n)) ∙ win) in
+    let wins : list_any is_win (fusion n (filter test set)) ≡ true =
+    any-map is_win (fused_at (filter test set)) (numbers_below n) ∙ range-any (λ c. is_win (fused_at (filter test set) c)) 0 n r.it (omega arith) (omega (arith, r.below)) (fused-same _ _ _ _ (any-with_loss test set r.it) (any-fewer test set r.it) r.passes) in
+    let no : true ≡ false = sym wins ∙ not-true _ parts.1 in
+    cc)))
 
 -- the positions of those that pass a test
 abbrev passing : (List Mark → Bool) → List (List Mark) → List ℕ
@@ -142,10 +142,10 @@ hopeless-open n levels before marks behind widths guarded shut = both_ways _ _ l
         let c : is_contradictory (fusion n (filter (with_loss part.test) (before ++ marks ∷ behind))) ≡ true = contradictory-losses n part.test (before ++ marks ∷ behind) part.contradictory in
         let place : length before < length (before ++ marks ∷ behind) = omega (arith, length-append before (marks ∷ behind)) in
         let fails : with_loss part.test marks ≡ false = false_from_ne_true _ (λ passes.
-          let o : is_open levels marks ≡ true = rw (at_middle before marks behind) at (part-open n (before ++ marks ∷ behind) levels part.test widths guarded c (length before) place (rw (at_middle before marks behind) passes)) in
-          let no : true ≡ false = sym o ∙ shut in cc) in
+        let o : is_open levels marks ≡ true = rw (at_middle before marks behind) at (part-open n (before ++ marks ∷ behind) levels part.test widths guarded c (length before) place (rw (at_middle before marks behind) passes)) in
+        let no : true ≡ false = sym o ∙ shut in cc) in
         let same : filter (with_loss part.test) (before ++ marks ∷ behind) ≡ filter (with_loss part.test) (before ++ behind) =
-            filter-append (with_loss part.test) before (marks ∷ behind) ∙ ap (λ (b : Bool). filter (with_loss part.test) before ++ cond b (marks ∷ filter (with_loss part.test) behind) (filter (with_loss part.test) behind)) fails ∙ sym (filter-append (with_loss part.test) before behind) in
+        filter-append (with_loss part.test) before (marks ∷ behind) ∙ ap (λ (b : Bool). filter (with_loss part.test) before ++ cond b (marks ∷ filter (with_loss part.test) behind) (filter (with_loss part.test) behind)) fails ∙ sym (filter-append (with_loss part.test) before behind) in
         no_ranking_keeps-more n (filter (with_loss part.test) (before ++ behind)) (before ++ behind) (IsPart-filter (with_loss part.test) (before ++ behind))
         (hopeless-fused n (filter (with_loss part.test) (before ++ behind)) (rw same at c))
 
@@ -179,8 +179,7 @@ safe-widths : (problem : Problem) (levels : List ℕ) (terms : List Term) → Ar
 safe-widths problem levels [] s = (All-nil (λ m. length m ≡ problem.constraints), All-nil (IsGuarded levels))
 safe-widths problem levels (term ∷ terms) s =
     let h = safe-head problem levels term terms s in
-    let r = safe-widths problem levels terms h.1 in
-    (
+    let r = safe-widths problem levels terms h.1 in (
       All-cons (λ m. length m ≡ problem.constraints) (condition_of problem term) (map (condition_of problem) terms) h.0.width r.0,
       All-cons (IsGuarded levels) (condition_of problem term) (map (condition_of problem) terms) h.0.guarded r.1,
     )
@@ -206,7 +205,7 @@ kept-before problem levels hopeless before other (term ∷ terms) same s =
     let h = safe-head problem levels term terms s in
     let kept = kept_of hopeless (other ++ term ∷ []) terms in
     let rest : kept_of hopeless (before ++ term ∷ []) terms ≡ kept = kept-before problem levels hopeless (before ++ term ∷ []) (other ++ term ∷ []) terms (λ more m.
-        rw (push_between before term more, push_between other term more) (same (term ∷ more) (OneTerm term more h.0 m))) h.1 in
+    rw (push_between before term more, push_between other term more) (same (term ∷ more) (OneTerm term more h.0 m))) h.1 in
     rw (rest, same kept (safe-kept problem levels hopeless (other ++ term ∷ []) terms h.1)) refl
 
 kept-open : (problem : Problem) (levels : List ℕ) (before terms : List Term) → AreSafe problem levels before → AreSafe problem levels terms → is_hopeless problem (before ++ terms) ≡ true
@@ -228,7 +227,7 @@ kept-open problem levels before (term ∷ terms) s t h = by (opens problem level
         let none : is_hopeless problem (before ++ terms) ≡ true = sym (nothing problem levels before term terms s p.0 p.1 e) ∙ h in
         let r = more before s none in
         let same : kept_of (is_hopeless problem) (before ++ term ∷ []) terms ≡ kept_of (is_hopeless problem) before terms =
-            kept-before problem levels (is_hopeless problem) (before ++ term ∷ []) before terms (λ m safe. rw (push_between before term m) (nothing problem levels before term m s p.0 safe e)) p.1 in
+        kept-before problem levels (is_hopeless problem) (before ++ term ∷ []) before terms (λ m safe. rw (push_between before term m) (nothing problem levels before term m s p.0 safe e)) p.1 in
         let passes : is_hopeless problem (before ++ kept_of (is_hopeless problem) before terms) ≡ true = kept_of-passes (is_hopeless problem) before terms none in
         let dropped : kept_of (is_hopeless problem) before (term ∷ terms) ≡ kept_of (is_hopeless problem) before terms = rw (same, passes) refl in
         (dropped ∙ r.0, r.1)

@@ -112,7 +112,7 @@ kept_of-before hopeless before other [] same = refl
 kept_of-before hopeless before other (term ∷ terms) same =
     let kept = kept_of hopeless (other ++ term ∷ []) terms in
     let rest : kept_of hopeless (before ++ term ∷ []) terms ≡ kept = kept_of-before hopeless (before ++ term ∷ []) (other ++ term ∷ []) terms (λ more.
-        rw (push_between before term more, push_between other term more) (same (term ∷ more))) in
+    rw (push_between before term more, push_between other term more) (same (term ∷ more))) in
     rw (rest, same kept) refl
 
 -- A term that is worth nothing behind others is not kept behind them.
