@@ -144,16 +144,6 @@ fused_mark E true false w l p q r t = absurd (omega arith)
 pub left_wins : (wins losses c : ℕ) → losses < 2 ^ 64 → c < 64 → bit_at (bit_and wins (bit_not w64 losses)) c ≡ min (bit_at wins c) (1 - bit_at losses c)
 left_wins wins losses c small within = bit_at_and wins (bit_not w64 losses) c ∙ ap (λ (x : ℕ). min (bit_at wins c) x) (bit_at_not w64 losses c small within)
 
-pub wins_apart : (wins losses n : ℕ) → n ≤ 64 → losses < 2 ^ n → losses < 2 ^ 64 → bit_and (bit_and wins (bit_not w64 losses)) losses ≡ 0
-wins_apart wins losses n few below small =
-    same_from_bits (bit_and (bit_and wins (bit_not w64 losses)) losses) 0 (λ c. bit_at_and (bit_and wins (bit_not w64 losses)) losses c ∙ none c ∙ sym (bit_at-zero c))
-  where
-    none : (c : ℕ) → min (bit_at (bit_and wins (bit_not w64 losses)) c) (bit_at losses c) ≡ 0
-    none c = elim (cases_lt c 64) [
-      | inl within ↦ rw (left_wins wins losses c small within) (omega (arith, bit_at-lt losses c))
-      | inr past ↦ rw (bit_at_above losses 64 c small past) (omega arith)
-    ]
-
 pub fusion-masks : (n : ℕ) (set : List (List Mark)) (wins losses : ℕ) (result : List Mark) → n ≤ 64 → losses < 2 ^ 64 → IsJoined is_win set wins → IsJoined is_loss set losses
     → length result ≡ n → IsMask is_win result (bit_and wins (bit_not w64 losses)) → IsMask is_loss result losses → result ≡ fusion n set
 fusion-masks n set wins losses result few small w l long p q = fill_by_all (λ c. fused (map (λ marks. mark_at marks c) set)) result n E long (λ c below.
