@@ -1,5 +1,5 @@
 -- The masks of the condition of one profile over another.
-use Rattle.std.proofs.Common.{◌≡◌, ◌⊎◌, ℕ, suc, ◌+◌, ◌-◌, ◌*◌, ◌%◌, ◌^◌, ◌<◌, ◌≤◌, max, get_or, inl, inr, List, [], ◌∷◌, Bool, true, false, cond, length, map, take, slice_index, arith, refl, sym, ◌∙◌, ap}
+use Rattle.std.proofs.Common.{◌≡◌, ◌⊎◌, ℕ, ◌+◌, ◌-◌, ◌*◌, ◌%◌, ◌^◌, ◌<◌, ◌≤◌, max, get_or, inl, inr, List, [], ◌∷◌, Bool, true, false, cond, length, map, take, slice_index, arith, refl, sym, ◌∙◌, ap}
 use Rattle.std.specs.Prelude.{nat_lt, bit_or}
 use Rattle.std.specs.Int.{bit_at, w32}
 use Rattle.std.specs.Simd.Lanes.{chunk, mask_l, top, zip2}

@@ -1,4 +1,4 @@
-use Rattle.std.proofs.Common.{◌≡◌, ◌+◌, ◌*◌, ◌-◌, ◌%◌, ◌/◌, length, arith, refl, sym, ◌∙◌}
+use Rattle.std.proofs.Common.{◌≡◌, ◌+◌, ◌*◌, ◌-◌, ◌%◌, length, arith, ◌∙◌}
 use Rattle.ot_theory.specs.Conditions.{condition, is_win, is_loss}
 use Rattle.erc_vectors.proofs.Bits.{IsMask-all}
 use Rattle.violation_profiles.proofs.Masked.{length-condition, wins-lanes, losses-lanes, wins-more, losses-more, bool_byte-cond}
