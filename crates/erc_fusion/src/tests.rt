@@ -19,15 +19,19 @@ fn marks_of(c: &Condition) -> [Mark; 3]
 
 #[test]
 fn the_stronger_mark_stays(rt: HostRuntime) {
-    for (first, second, fused) in [
-        ([W, L, E], [W, L, E], [W, L, E]),
-        ([W, W, E], [L, E, E], [L, W, E]),
-        ([E, L, W], [E, W, L], [E, L, L]),
-        ([W, E, L], [E, W, W], [W, W, L]),
+    for (name, first, second, fused) in [
+        ("with itself", [W, L, E], [W, L, E], [W, L, E]),
+        ("L over W", [W, W, E], [L, E, E], [L, W, E]),
+        ("L over W in the second", [E, L, W], [E, W, L], [E, L, L]),
+        ("W over e", [W, E, L], [E, W, W], [W, W, L]),
     ] {
         let set = [condition(&rt, first), condition(&rt, second)];
-        assert_eq!(rt; marks_of(&fuse(&set)), fused);
-        assert_eq!(rt; marks_of(&fuse(&set[..1])), first);
+        assert_eq!(rt; marks_of(&fuse(&set)), fused, "{name}");
+        assert_eq!(rt;
+            marks_of(&fuse(&set[..1])),
+            first,
+            "{name}, the first alone"
+        );
     }
 }
 
@@ -47,22 +51,28 @@ fn all_but_one(most: Condition, one: Condition, place: usize) -> [Condition; 100
 fn one_loss_among_many_wins_stays(rt: HostRuntime) {
     let wins = condition(&rt, [W, E, E]);
     let loss = condition(&rt, [L, E, E]);
-    for (place, fused) in [(0, [L, E, E]), (500, [L, E, E]), (1000, [L, E, E])] {
+    for (name, place) in [
+        ("in the first lane", 0),
+        ("in the second lane", 1),
+        ("in the third lane", 502),
+        ("in the last lane", 999),
+        ("behind the lanes", 1000),
+    ] {
         let set = all_but_one(wins, loss, place);
-        assert_eq!(rt; marks_of(&fuse(&set)), fused);
+        assert_eq!(rt; marks_of(&fuse(&set)), [L, E, E], "{name}");
     }
 }
 
 #[test]
 fn a_contradiction_has_a_loss_and_no_win(rt: HostRuntime) {
-    for (marks, holds) in [
-        ([L, L, E], true),
-        ([W, L, E], false),
-        ([L, E, W], false),
-        ([W, E, E], false),
-        ([E, E, E], false),
-        ([E, E, L], true),
+    for (name, marks, holds) in [
+        ("two L", [L, L, E], true),
+        ("W before L", [W, L, E], false),
+        ("W behind L", [L, E, W], false),
+        ("W alone", [W, E, E], false),
+        ("even", [E, E, E], false),
+        ("L at last", [E, E, L], true),
     ] {
-        assert_eq!(rt; is_contradiction(&condition(&rt, marks)), holds);
+        assert_eq!(rt; is_contradiction(&condition(&rt, marks)), holds, "{name}");
     }
 }

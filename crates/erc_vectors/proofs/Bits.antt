@@ -1,5 +1,5 @@
 -- Marks and their masks.
-use Rattle.std.proofs.Common.{◌≡◌, ◌≢◌, ℕ, ◌+◌, ◌*◌, ◌%◌, ◌^◌, ◌<◌, ◌≤◌, min, List, Bool, true, false, not, cond, length, take, map, get_or, arith, refl, sym, ap, ◌∙◌, inl, inr}
+use Rattle.std.proofs.Common.{◌≡◌, ◌≢◌, ℕ, ◌+◌, ◌*◌, ◌%◌, ◌^◌, ◌<◌, ◌≤◌, min, List, Bool, true, false, not, cond, length, take, map, arith, refl, sym, ap, ◌∙◌, inl, inr}
 use Rattle.std.specs.Prelude.{bit_and, bit_or, ◌==◌, if◌then◌else◌}
 use Rattle.std.specs.Int.{bit_at, w64, trailing_zeros}
 use Rattle.std.specs.List.{list_any}
@@ -83,9 +83,6 @@ front_other marks k c within other = elim (cases_lt c k) [
   | inl below ↦ front_at marks (k + 1) c (omega arith) ∙ sym (front_at marks k c below)
   | inr past ↦ front_past marks (k + 1) c (omega arith) (omega arith) ∙ sym (front_past marks k c (omega arith) past)
 ]
-
-pub IsMask-none : (test : Mark → Bool) (marks : List Mark) → test E ≡ false → IsMask test (take 0 marks) 0
-IsMask-none test marks even c = bit_at-zero c ∙ sym (ap (λ (m : Mark). cond (test m) 1 0) (front_past marks 0 c (omega arith) (omega arith)) ∙ ap (λ (t : Bool). cond t 1 0) even)
 
 -- a mark that passes
 pub IsMask-set : (test : Mark → Bool) (marks : List Mark) (k mask : ℕ) → k < length marks → k < 64 → test (mark_at marks k) ≡ true → IsMask test (take k marks) mask → IsMask test (take (k + 1) marks) (bit_or mask (1 * 2 ^ k % 2 ^ 64))

@@ -1,14 +1,14 @@
 -- Of conditions that no ranking keeps a part fuses to an L and no W.
-use Rattle.std.proofs.Common.{◌≡◌, ◌⊎◌, ℕ, zero, suc, ◌<◌, ◌≤◌, List, [], ◌∷◌, ◌++◌, Bool, true, false, not, ◌&&◌, arith, refl, sym, ◌∙◌, ap, cond, inl, inr, length, length-append, map}
+use Rattle.std.proofs.Common.{◌≡◌, ◌⊎◌, ℕ, zero, suc, ◌+◌, ◌<◌, ◌≤◌, List, [], ◌∷◌, ◌++◌, Bool, true, false, not, ◌&&◌, arith, refl, sym, ◌∙◌, ap, cond, inl, inr, length, length-append, map}
 use Rattle.std.specs.Prelude.{filter}
-use Rattle.std.specs.List.{list_all, list_any}
+use Rattle.std.specs.List.{list_all, list_any, range_with_len}
 use Rattle.std.proofs.lemmas.Bool.{and_parts, and_from, or_parts, cases_Bool, cases_lt, not-false, not-true, false_from_ne_true}
 use Rattle.std.proofs.lemmas.List.{append-nil}
 use Rattle.std.proofs.lemmas.Bool.Decides.{eqb_tells, leb_tells}
 use Rattle.ot_theory.specs.declared.Mark.{Mark}
 use Rattle.ot_theory.specs.declared.Mark.TheVariants.{W, L, E}
 use Rattle.ot_theory.specs.Rankings.{count_of, IsRanking, rankings, numbers_below}
-use Rattle.ot_theory.specs.Conditions.{keeps, mark_at, is_win, is_loss, is_even, fusion, is_contradictory}
+use Rattle.ot_theory.specs.Conditions.{keeps, mark_at, is_win, is_loss, is_even, fused, fusion, is_contradictory}
 use Rattle.ot_theory.specs.Refutations.{no_ranking_keeps}
 use Rattle.ot_theory.proofs.Enumeration.{any-map, any-ranking, count_here, count_past, count_step, count-append, split_at}
 use Rattle.ot_theory.proofs.Strata.{mark_tells, range-any, any-range, InRange}
@@ -171,6 +171,15 @@ contradictory-part n set h = part_from n set (length (numbers_below n)) [] (numb
     all-none : (set : List (List Mark)) → list_all (keeps []) set ≡ true
     all-none [] = refl
     all-none (marks ∷ set) = all-none set
+
+-- No condition at all fuses to e everywhere, so a part that fuses to an L is not empty.
+none-even : (a n : ℕ) → list_any is_loss (map (λ c. fused []) (range_with_len a n)) ≡ false
+none-even a zero = refl
+none-even a (suc n) = none-even (a + 1) n
+
+pub contradictory-some : (n : ℕ) (set : List (List Mark)) → is_contradictory (fusion n set) ≡ true → 0 < length set
+contradictory-some n [] h = absurd (let loss : list_any is_loss (fusion n []) ≡ true = (and_parts _ _ h).0 in let no : true ≡ false = sym loss ∙ none-even 0 n in cc)
+contradictory-some n (marks ∷ set) h = omega arith
 
 -- without any one of its members some ranking keeps the set
 abbrev pub EachNeeded : ℕ → List (List Mark) → Type 0

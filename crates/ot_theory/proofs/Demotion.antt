@@ -1,6 +1,6 @@
 -- Demotion in rounds gives the least hierarchy, or shows that no ranking keeps the conditions.
 use Rattle.std.proofs.Common.{◌≡◌, ◌≢◌, ◌⊎◌, ℕ, zero, suc, ◌+◌, ◌<◌, ◌≤◌, List, [], Bool, true, false, not, ◌&&◌, ◌==◌, arith, sym, ◌∙◌, ap, inl, inr, length, slice_index, get_or}
-use Rattle.std.specs.Prelude.{All, Contains, EachIndex, slice_index_or, nat_lt}
+use Rattle.std.specs.Prelude.{All, Contains, nat_lt}
 use Rattle.std.specs.List.{list_all, list_any}
 use Rattle.std.proofs.lemmas.Bool.{ltb-true, lt-ltb, cases_lt, and_parts, and_from, not-true, cases_Bool}
 use Rattle.std.proofs.lemmas.Bool.Decides.{eqb_tells, leb_tells, nat_tests}
@@ -13,19 +13,13 @@ use Rattle.ot_theory.specs.Rankings.{count_of, IsRanking, rankings}
 use Rattle.ot_theory.specs.Conditions.{keeps, mark_at, is_win, is_loss}
 use Rattle.ot_theory.specs.Hierarchies.{Satisfies, IsLeastHierarchy}
 use Rattle.ot_theory.specs.Demotion.{is_closed, is_blocked, level_after, StaysOpen}
+pub use Rattle.ot_theory.specs.Demotion.{PlacedWin, IsGuarded}
 use Rattle.ot_theory.specs.Refutations.{no_ranking_keeps}
 use Rattle.ot_theory.proofs.Enumeration.{counted, ranking-found, ranking-within}
 use Rattle.ot_theory.proofs.Strata.{any-range, range-any, mark_at-within, place_of, below-wins, WinAbove, satisfied-WinAbove, is_win-true, is_loss-true}
 use Rattle.ot_theory.proofs.Orders.{kept-satisfied}
 use Rattle.ot_theory.proofs.Hopeless.{guarded-keeps}
 use Rattle.ot_theory.proofs.Parts.{loss-beside}
-
--- a constraint with W that is placed
-pub record PlacedWin (levels : List ℕ) (marks : List Mark) : Type 0 where
-  pub it : ℕ
-  pub within : it < length marks
-  pub win : mark_at marks it ≡ W
-  pub placed : 0 < slice_index levels it
 
 abbrev is_placed_win : List ℕ → List Mark → ℕ → Bool
 is_placed_win levels marks c = is_win (mark_at marks c) && nat_lt 0 (slice_index levels c)
@@ -106,7 +100,7 @@ pub record AreRounds (n : ℕ) (set : List (List Mark)) (r : ℕ) (levels : List
   pub within : (c : ℕ) → slice_index levels c ≤ r
   pub least : (other : List ℕ) → Satisfies n set other → (c : ℕ) → slice_index levels c ≤ slice_index other c
   pub later : (other : List ℕ) → Satisfies n set other → (c : ℕ) → c < n → slice_index levels c ≡ 0 → r < slice_index other c
-  pub guarded : All (λ marks. (d : ℕ) → mark_at marks d ≡ L → 0 < slice_index levels d → (w : PlacedWin levels marks) × (slice_index levels w.it < slice_index levels d)) set
+  pub guarded : All (IsGuarded levels) set
   pub stays : KeepsOpen n set levels
 
 pub AreRounds-none : (n : ℕ) (set : List (List Mark)) (levels : List ℕ) → length levels ≡ n → All (λ level. level ≡ 0) levels → AreRounds n set 0 levels
@@ -126,12 +120,6 @@ AreRounds-none n set levels width unplaced = record {
 pub record IsRound (set : List (List Mark)) (given : ℕ) (old new : List ℕ) : Type 0 where
   pub same : length new ≡ length old
   pub each : (c : ℕ) → c < length new → slice_index new c ≡ level_after (slice_index old c) (is_blocked old set c) given
-
-pub IsRound-from : (set : List (List Mark)) (given : ℕ) (old new : List ℕ) (blocked : List Bool) → length new ≡ length old → EachIndex old (λ c. slice_index_or blocked c false ≡ is_blocked old set c) → EachIndex new (λ c. slice_index new c ≡ level_after (slice_index old c) (slice_index_or blocked c false) given) → IsRound set given old new
-IsRound-from set given old new blocked same marked each = record {
-  same = same;
-  each = λ c below. each c below ∙ ap (λ (b : Bool). level_after (slice_index old c) b given) (marked c (omega arith));
-}
 
 -- what a round does to a constraint
 data Change (set : List (List Mark)) (given : ℕ) (old new : List ℕ) (c : ℕ) : Type 0 where

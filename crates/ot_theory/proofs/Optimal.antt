@@ -1,5 +1,5 @@
 -- A class is optimal exactly where the ranking keeps its conditions over all other classes of its input.
-use Rattle.std.proofs.Common.{◌≡◌, ◌≢◌, ℕ, zero, suc, ◌+◌, ◌<◌, ◌≤◌, List, [], ◌∷◌, Bool, true, false, not, ◌||◌, ◌&&◌, ◌==◌, arith, refl, sym, ◌∙◌, ap, inl, inr, length, flat_map, slice_index, slice_index_or, drop, add-one}
+use Rattle.std.proofs.Common.{◌≡◌, ◌≢◌, ℕ, zero, suc, ◌+◌, ◌<◌, ◌≤◌, List, [], ◌∷◌, Bool, true, false, not, ◌||◌, ◌&&◌, ◌==◌, arith, refl, sym, ◌∙◌, ap, inl, inr, length, flat_map, slice_index_or, drop, add-one}
 use Rattle.std.specs.Prelude.{filter, nat_lt, slice_get}
 use Rattle.std.specs.List.{range_with_len, list_all, list_any, enumerate_from}
 use Rattle.std.specs.Option.{option_map_or}
@@ -9,21 +9,11 @@ use Rattle.std.proofs.lemmas.Bool.Decides.{eqb_tells}
 use Rattle.ot_theory.specs.Rankings.{better, optimal, numbers_below, IsRanking, rankings}
 use Rattle.ot_theory.specs.Conditions.{condition, keeps}
 use Rattle.ot_theory.specs.Problems.{Input, Problem}
+pub use Rattle.ot_theory.specs.Problems.{Differ, AreClasses}
 use Rattle.ot_theory.specs.Languages.{classes_at, terms_of_class, terms_of, condition_of, conditions_of, each_optimal, holds, refuted}
 use Rattle.ot_theory.specs.Refutations.{no_ranking_keeps}
 use Rattle.ot_theory.proofs.Enumeration.{any-ranking, ranking-found}
 use Rattle.ot_theory.proofs.Keeping.{better-keeps, first_difference}
-
--- two profiles differ at some constraint
-pub record Differ (n : ℕ) (a b : List ℕ) : Type 0 where
-  pub at : ℕ
-  pub within : at < n
-  pub differ : slice_index a at ≢ slice_index b at
-
--- classes of n constraints each, no two of them alike
-pub record AreClasses (n : ℕ) (classes : List (List ℕ)) : Type 0 where
-  pub width : (a : ℕ) → a < length classes → length (slice_index_or classes a []) ≡ n
-  pub distinct : (a b : ℕ) → a < length classes → b < length classes → b ≢ a → Differ n (slice_index_or classes a []) (slice_index_or classes b [])
 
 pub better-condition : (n : ℕ) (order : List ℕ) (classes : List (List ℕ)) (a b : ℕ) → IsRanking n order → AreClasses n classes → a < length classes → b < length classes → b ≢ a
     → better order (slice_index_or classes a []) (slice_index_or classes b []) ≡ keeps order (condition (slice_index_or classes a []) (slice_index_or classes b []))

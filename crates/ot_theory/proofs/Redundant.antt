@@ -5,6 +5,7 @@ use Rattle.std.specs.List.{list_all, list_any}
 use Rattle.std.proofs.lemmas.Bool.{and_parts, and_from, cases_Bool, not-true}
 use Rattle.std.proofs.lemmas.List.{append-nil, append_assoc, map-append}
 use Rattle.std.proofs.lemmas.List.Folds.{list_all-append}
+use Rattle.std.proofs.lemmas.List.Sums.{AllPass-from_list_all, list_all-from_AllPass}
 use Rattle.std.proofs.lemmas.List.Elements.{All-head, All-tail}
 use Rattle.ot_theory.specs.declared.Mark.{Mark}
 use Rattle.ot_theory.specs.declared.Mark.TheVariants.{W, L, E}
@@ -18,7 +19,7 @@ use Rattle.ot_theory.specs.Reductions.{IsStronger, IsImplied, IsReduced}
 use Rattle.ot_theory.proofs.Enumeration.{any-ranking, ranking-found}
 use Rattle.ot_theory.proofs.Strata.{mark_tells, is_win-true, is_loss-true, mark_at-within, WinAbove-satisfied, satisfied-WinAbove}
 use Rattle.ot_theory.proofs.Deletion.{kept_of-append, kept_of-passes, push_between}
-use Rattle.ot_theory.proofs.Sets.{is_hopeless}
+use Rattle.ot_theory.proofs.Sets.{both_ways, is_hopeless}
 
 -- What keeps the stronger condition keeps the weaker one.
 stronger-keeps : (order : List ℕ) (marks weaker : List Mark) → IsStronger marks weaker → keeps order marks ≡ true → keeps order weaker ≡ true
@@ -46,16 +47,10 @@ stronger-satisfied levels marks weaker s h = satisfied-WinAbove levels weaker (�
     let win : mark_at weaker w.it ≡ W = is_win-true _ (s.wins w.it (ap is_win w.win)) in
     record { it = w.it; within = mark_at-within weaker w.it (λ even. let no : W ≡ E = sym win ∙ even in cc); win = win; above = w.above })
 
--- what all pass, each passes
-all-at : {X : Type 0} (p : X → Bool) (xs : List X) (k : ℕ) (d : X) → list_all p xs ≡ true → k < length xs → p (get_or xs k d) ≡ true
-all-at p [] k d h below = absurd (omega arith)
-all-at p (x ∷ xs) zero d h below = (and_parts _ _ h).0
-all-at p (x ∷ xs) (suc k) d h below = all-at p xs k d (and_parts _ _ h).1 (omega arith)
-
 pub IsImplied-stronger : (set : List (List Mark)) (marks : List Mark) (k : ℕ) (d : List Mark) → k < length set → IsStronger (get_or set k d) marks → IsImplied set marks
 IsImplied-stronger set marks k d below s = record {
-  kept = λ order h. stronger-keeps order (get_or set k d) marks s (all-at (keeps order) set k d h below);
-  satisfied = λ levels h. stronger-satisfied levels (get_or set k d) marks s (all-at (satisfies levels) set k d h below);
+  kept = λ order h. stronger-keeps order (get_or set k d) marks s (AllPass-from_list_all (keeps order) set h k d below);
+  satisfied = λ levels h. stronger-satisfied levels (get_or set k d) marks s (AllPass-from_list_all (satisfies levels) set h k d below);
 }
 
 -- A condition without L is implied by any set.
@@ -88,11 +83,6 @@ no_ranking_keeps-weaker n part set within h = elim (cases_Bool (list_any (λ ord
   | inr none ↦ ap not none
 ]
 
-both_ways : (a b : Bool) → (a ≡ true → b ≡ true) → (b ≡ true → a ≡ true) → a ≡ b
-both_ways true b f g = sym (f refl)
-both_ways false true f g = g refl
-both_ways false false f g = refl
-
 -- a list with a member between two parts
 all-between : {X : Type 0} (p : X → Bool) (before : List X) (x : X) (behind : List X) → list_all p before ≡ true → p x ≡ true → list_all p behind ≡ true → list_all p (before ++ x ∷ behind) ≡ true
 all-between p before x behind h here rest = list_all-append p before (x ∷ behind) ∙ and_from _ _ h (and_from _ _ here rest)
@@ -112,7 +102,7 @@ kept_of-before hopeless before other [] same = refl
 kept_of-before hopeless before other (term ∷ terms) same =
     let kept = kept_of hopeless (other ++ term ∷ []) terms in
     let rest : kept_of hopeless (before ++ term ∷ []) terms ≡ kept = kept_of-before hopeless (before ++ term ∷ []) (other ++ term ∷ []) terms (λ more.
-        rw (push_between before term more, push_between other term more) (same (term ∷ more))) in
+    rw (push_between before term more, push_between other term more) (same (term ∷ more))) in
     rw (rest, same kept) refl
 
 -- A term that is worth nothing behind others is not kept behind them.
@@ -211,15 +201,8 @@ IsReduced-append problem whole reduced others fewer r s = record {
         ∙ ap (λ (kept : List Term). kept_of (λ terms. is_hopeless problem (terms ++ kept)) before reduced ++ kept) (s.kept (before ++ reduced) more h)
         ∙ sym (kept_of-append (is_hopeless problem) before reduced (fewer ++ more))
 
-IsTrue-all : {X : Type 0} (p : X → Bool) (xs : List X) → All (λ x. IsTrue (p x)) xs → list_all p xs ≡ true
-IsTrue-all p [] h = refl
-IsTrue-all p (x ∷ xs) h = and_from _ _ (All-head (λ y. IsTrue (p y)) x xs h) (IsTrue-all p xs (All-tail (λ y. IsTrue (p y)) x xs h))
-
-all-IsTrue : {X : Type 0} (p : X → Bool) (xs : List X) → list_all p xs ≡ true → All (λ x. IsTrue (p x)) xs
-all-IsTrue p xs h = λ k d below. all-at p xs k d h below
-
 Satisfies-other : (n : ℕ) (set other : List (List Mark)) (levels : List ℕ) → list_all (satisfies levels) set ≡ list_all (satisfies levels) other → Satisfies n set levels → Satisfies n other levels
-Satisfies-other n set other levels e s = record { width = s.width; from_one = s.from_one; each = all-IsTrue (satisfies levels) other (sym e ∙ IsTrue-all (satisfies levels) set s.each) }
+Satisfies-other n set other levels e s = record { width = s.width; from_one = s.from_one; each = AllPass-from_list_all (satisfies levels) other (sym e ∙ list_all-from_AllPass (satisfies levels) set s.each) }
 
 -- The least hierarchy is the same.
 pub IsReduced-least : (problem : Problem) (whole reduced : List Term) (levels : List ℕ) → IsReduced problem whole reduced → IsLeastHierarchy problem.constraints (map (condition_of problem) reduced) levels → IsLeastHierarchy problem.constraints (map (condition_of problem) whole) levels

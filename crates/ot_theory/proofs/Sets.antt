@@ -31,14 +31,14 @@ no_ranking_keeps-more n part set within h = elim (cases_Bool (list_any (λ order
   | inr none ↦ ap not none
 ]
 
+-- two tests of which each passes where the other does
+pub both_ways : (a b : Bool) → (a ≡ true → b ≡ true) → (b ≡ true → a ≡ true) → a ≡ b
+both_ways true b f g = sym (f refl)
+both_ways false true f g = g refl
+both_ways false false f g = refl
+
 pub no_ranking_keeps-same : (n : ℕ) (set other : List (List Mark)) → IsPart set other → IsPart other set → no_ranking_keeps n set ≡ no_ranking_keeps n other
-no_ranking_keeps-same n set other within back =
-    by (no_ranking_keeps n set) (no_ranking_keeps n other) (no_ranking_keeps-more n set other within) (no_ranking_keeps-more n other set back)
-  where
-    by : (a b : Bool) → (a ≡ true → b ≡ true) → (b ≡ true → a ≡ true) → a ≡ b
-    by true b f g = sym (f refl)
-    by false true f g = g refl
-    by false false f g = refl
+no_ranking_keeps-same n set other within back = both_ways _ _ (no_ranking_keeps-more n set other within) (no_ranking_keeps-more n other set back)
 
 -- the parts of two lists in the other order
 pub IsPart-exchanged : (xs ys : List (List Mark)) → IsPart (xs ++ ys) (ys ++ xs)

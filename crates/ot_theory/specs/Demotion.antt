@@ -2,6 +2,7 @@
 use Rattle.std.specs.Prelude.{◌≡◌, ℕ, ◌<◌, Bool, true, false, not, ◌&&◌, ◌==◌, List, [], map, length, slice_index, slice_index_or, nat_lt, filter, All, Contains, IsTrue, if◌then◌else◌}
 use Rattle.std.specs.List.{list_any}
 use Rattle.ot_theory.specs.declared.Mark.{Mark}
+use Rattle.ot_theory.specs.declared.Mark.TheVariants.{W, L}
 use Rattle.ot_theory.specs.Rankings.{numbers_below}
 use Rattle.ot_theory.specs.Conditions.{is_win, is_loss, mark_at, fusion, is_contradictory}
 
@@ -43,3 +44,14 @@ pub record AreLeftOpen (n : ℕ) (set : List (List Mark)) (positions : List ℕ)
 -- the number of a constraint after a round that gives the free ones this number
 abbrev pub level_after : ℕ → Bool → ℕ → ℕ
 level_after level blocked given = if (level == 0) && not blocked then given else level
+
+-- a constraint with W that is placed
+pub record PlacedWin (levels : List ℕ) (marks : List Mark) : Type 0 where
+  pub it : ℕ
+  pub within : it < length marks
+  pub win : mark_at marks it ≡ W
+  pub placed : 0 < slice_index levels it
+
+-- Each L at a placed constraint has a W above it.
+abbrev pub IsGuarded : List ℕ → List Mark → Type 0
+IsGuarded levels marks = (d : ℕ) → mark_at marks d ≡ L → 0 < slice_index levels d → (w : PlacedWin levels marks) × (slice_index levels w.it < slice_index levels d)

@@ -1,5 +1,5 @@
 -- Choices of one class per input, and which of them are languages.
-use Rattle.std.specs.Prelude.{◌≡◌, ℕ, ◌*◌, ◌/◌, ◌%◌, Bool, true, false, not, ◌&&◌, List, [], ◌∷◌, map, length, slice_index_or, ◌==◌, filter, flat_map, slice_get, Option, option_and_then, All}
+use Rattle.std.specs.Prelude.{◌≡◌, ℕ, Bool, true, false, not, ◌&&◌, List, [], ◌∷◌, map, length, slice_index_or, ◌==◌, filter, flat_map, slice_get, Option, option_and_then, All}
 use Rattle.std.specs.List.{list_any, enumerate_from}
 use Rattle.std.specs.Option.{option_map_or}
 use Rattle.ot_theory.specs.declared.Mark.{Mark}
@@ -12,16 +12,6 @@ use Rattle.ot_theory.specs.Problems.{Input, Problem}
 unfoldable pub choices : List Input → List (List ℕ)
 choices [] = [] ∷ []
 choices (input ∷ inputs) = flat_map (λ a. map (λ rest. a ∷ rest) (choices inputs)) (numbers_below (length input.classes))
-
--- how many choices there are
-abbrev pub choice_count : List Input → ℕ
-choice_count [] = 1
-choice_count (input ∷ inputs) = length input.classes * choice_count inputs
-
--- The choice at a place of their list: as the digits of a number, the class of the last input changes first.
-abbrev pub choice_at : List Input → ℕ → List ℕ
-choice_at [] k = []
-choice_at (input ∷ inputs) k = (k / choice_count inputs) ∷ choice_at inputs (k % choice_count inputs)
 
 -- the first classes of a choice, each optimal in its input
 abbrev pub each_optimal : List ℕ → List Input → List ℕ → Bool

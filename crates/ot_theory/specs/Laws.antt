@@ -1,11 +1,12 @@
 -- Laws of the definitions.
-use Rattle.std.specs.Prelude.{◌≡◌, ℕ, ◌<◌, Bool, not, ◌==◌, List, [], length, slice_index_or, filter, All, Contains}
+use Rattle.std.specs.Prelude.{◌≡◌, ◌↔◌, ℕ, ◌<◌, Bool, true, not, ◌==◌, List, [], length, slice_index_or, filter, All, Contains}
 use Rattle.std.specs.List.{list_all}
 use Rattle.ot_theory.specs.declared.Mark.{Mark}
 use Rattle.ot_theory.specs.Rankings.{numbers_below, IsRanking, rankings, optimal}
-use Rattle.ot_theory.specs.Conditions.{condition, keeps}
+use Rattle.ot_theory.specs.Conditions.{condition, keeps, fusion, is_contradictory}
 use Rattle.ot_theory.specs.Hierarchies.{satisfies, satisfies_by_least}
 use Rattle.ot_theory.specs.Problems.{classes_of}
+use Rattle.ot_theory.specs.Refutations.{no_ranking_keeps}
 
 -- The list of the rankings of n constraints holds each of them, and nothing else.
 abbrev pub HoldsRankings : ℕ → Type 0
@@ -14,6 +15,16 @@ HoldsRankings n = ((order : List ℕ) → IsRanking n order → Contains (rankin
 -- A hierarchy satisfies a condition exactly where it does by the least strata of its W's and of its L's.
 abbrev pub IsSatisfiedByLeast : List ℕ → List Mark → Type 0
 IsSatisfiedByLeast levels marks = length levels ≡ length marks → satisfies levels marks ≡ satisfies_by_least levels marks
+
+-- Some of a set's conditions, those that pass a test and at least one, fuse to an L and no W.
+pub record HasContradictoryPart (n : ℕ) (set : List (List Mark)) : Type 0 where
+  pub test : List Mark → Bool
+  pub some : 0 < length (filter test set)
+  pub contradictory : is_contradictory (fusion n (filter test set)) ≡ true
+
+-- No ranking of n constraints keeps a set of conditions exactly where some non-empty part of it fuses to an L and no W.
+abbrev pub IsInconsistentByFusion : ℕ → List (List Mark) → Type 0
+IsInconsistentByFusion n set = no_ranking_keeps n set ≡ true ↔ HasContradictoryPart n set
 
 -- the ranking keeps the conditions of a class over all other classes
 abbrev pub keeps_over_others : List ℕ → List (List ℕ) → ℕ → Bool

@@ -1,5 +1,5 @@
 -- Problems: a number of constraints, and inputs whose candidates fall into classes of equal profiles.
-use Rattle.std.specs.Prelude.{ℕ, Bool, not, ◌&&◌, List, [], ◌∷◌, map, length, slice_index, slice_index_or, nat_lt, nat_le, nat_eq, filter, find, position, take, drop, Option, option_and_then}
+use Rattle.std.specs.Prelude.{◌≡◌, ◌≢◌, ◌<◌, ℕ, Bool, not, ◌&&◌, List, [], ◌∷◌, map, length, slice_index, slice_index_or, nat_lt, nat_le, nat_eq, filter, find, position, take, drop, Option, option_and_then}
 use Rattle.std.specs.List.{list_all}
 use Rattle.std.specs.Cmp.Lexicographic.{pointwise}
 use Rattle.ot_theory.specs.Rankings.{numbers_below}
@@ -22,6 +22,17 @@ same_profile = pointwise nat_eq
 abbrev pub classes_of : List (List ℕ) → List (List ℕ)
 classes_of [] = []
 classes_of (profile ∷ profiles) = profile ∷ filter (λ other. not (same_profile profile other)) (classes_of profiles)
+
+-- two profiles differ at some constraint
+pub record Differ (n : ℕ) (a b : List ℕ) : Type 0 where
+  pub at : ℕ
+  pub within : at < n
+  pub differ : slice_index a at ≢ slice_index b at
+
+-- classes of n constraints each, no two of them alike
+pub record AreClasses (n : ℕ) (classes : List (List ℕ)) : Type 0 where
+  pub width : (a : ℕ) → a < length classes → length (slice_index_or classes a []) ≡ n
+  pub distinct : (a b : ℕ) → a < length classes → b < length classes → b ≢ a → Differ n (slice_index_or classes a []) (slice_index_or classes b [])
 
 -- the positions of the candidates with this profile
 abbrev pub members_of : List (List ℕ) → List ℕ → List ℕ

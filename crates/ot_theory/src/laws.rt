@@ -2,7 +2,7 @@
 
 ghost use Rattle.std.specs.Prelude.{ℕ, List};
 ghost use Rattle.ot_theory.specs.declared.Mark.{Mark};
-ghost use Rattle.ot_theory.specs.Laws.{HoldsRankings, IsSatisfiedByLeast, IsOptimalByConditions};
+ghost use Rattle.ot_theory.specs.Laws.{HoldsRankings, IsSatisfiedByLeast, IsInconsistentByFusion, IsOptimalByConditions};
 
 /// The list of the rankings of n constraints holds each of them, and nothing else.
 pub fn rankings_are_all()
@@ -12,6 +12,11 @@ pub fn rankings_are_all()
 /// A hierarchy satisfies a condition with W and L exactly where the least stratum of its W's is above that of its L's.
 pub fn satisfied_by_least()
     ensures { (levels : List ℕ) (marks : List Mark) → IsSatisfiedByLeast levels marks }
+{}
+
+/// A set of conditions holds under no ranking exactly where some non-empty part of it fuses to an L and no W (Prince 2002).
+pub fn inconsistent_by_fusion()
+    ensures { (n : ℕ) (set : List (List Mark)) → IsInconsistentByFusion n set }
 {}
 
 /// Of the classes of an input's candidates, one is optimal exactly where the ranking keeps its conditions over all others.

@@ -2,9 +2,8 @@
 use Rattle.std.specs.Prelude.{ℕ, ◌<◌, ◌≤◌, List, length, slice_index, All, IfSome, ◌≡◌}
 use Rattle.erc_vectors.specs.declared.condition.TheConstants.{LIMIT}
 use Rattle.ot_base.specs.declared.limits.TheConstants.{INPUT_LIMIT, CANDIDATE_LIMIT}
-use Rattle.ot_theory.specs.Problems.{Problem, Input}
+use Rattle.ot_theory.specs.Problems.{Problem, Input, AreClasses}
 use Rattle.ot_theory.specs.Languages.{classes_at}
-use Rattle.ot_theory.proofs.Optimal.{AreClasses}
 
 -- classes of n constraints each, at least one, no two of them alike, with the members of each; the winner is one of them
 pub record IsWellFormedInput (n : ℕ) (input : Input) : Type 0 where

@@ -21,11 +21,9 @@ impl Class {
     fn of(alloc: Global, profile: &[u32], candidate: u32) -> Result<Class, NoMemory>
         ensures { IfOk result (λ class. (class.profile ≡ profile.now) × (class.members ≡ candidate ∷ [])) }
     {
-        let mut members = List::new(alloc);
-        members.push(candidate)?;
         Ok(Class {
-            profile: copied(alloc, profile)?,
-            members,
+            profile: List::of(alloc, profile)?,
+            members: List::of(alloc, &[candidate])?,
         })
     }
 }
@@ -68,10 +66,8 @@ fn add_class(
     ensures { OnOk result ((map (λ class. class.profile) classes.new.items ≡ map (λ class. class.profile) classes.old.items ++ profile.now ∷ [])
         × (map (λ class. class.members) classes.new.items ≡ map (λ class. class.members) classes.old.items ++ (candidate ∷ []) ∷ [])) }
 {
-    match classes.push(Class::of(alloc, profile, candidate)?) {
-        Ok(()) => Ok(()),
-        Err(_) => Err(NoMemory),
-    }
+    classes.push(Class::of(alloc, profile, candidate)?)?;
+    Ok(())
 }
 
 /// The class with this profile.
@@ -82,14 +78,4 @@ pub(crate) fn class_of(classes: &[Class], profile: &[u32]) -> Option<usize>
     classes
         .iter()
         .position(|class| profile == class.profile.as_slice())
-}
-
-fn copied(alloc: Global, profile: &[u32]) -> Result<List<u32>, NoMemory>
-    ensures { IfOk result (λ copy. copy ≡ profile.now) }
-{
-    let mut copy = List::new(alloc);
-    for violation in profile {
-        copy.push(*violation)?;
-    }
-    Ok(copy)
 }

@@ -4,7 +4,8 @@
 //! Candidates with equal violations are one class, and the condition of one class over another is the elementary ranking
 //! condition of Prince (Entailed Ranking Arguments, 2002): a class is optimal under a ranking, as Tesar and Smolensky
 //! (Learnability in Optimality Theory, 2000) define it, exactly where the ranking keeps its conditions over all other
-//! classes. The rule that picks one winner of an input by the counts is this project's own.
+//! classes. The rule that picks one winner of an input by the counts is this project's own. Conditions are not kept, since
+//! there may be millions of them: each is found from the two profiles when it is asked for, many violations at a time.
 #![tactic(auto)]
 
 mod classes;

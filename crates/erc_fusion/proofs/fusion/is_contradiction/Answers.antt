@@ -1,6 +1,4 @@
-use Rattle.std.proofs.Common.{◌≡◌, ◌≢◌, ◌<◌, ◌^◌, true, false, not, refl, arith, ap}
-use Rattle.std.specs.Prelude.{◌==◌}
-use Rattle.std.specs.List.{list_any}
+use Rattle.std.proofs.Common.{refl, arith}
 use Rattle.ot_theory.specs.Conditions.{is_win, is_loss}
 use Rattle.erc_vectors.proofs.Bits.{any-mask}
 use Rattle.erc_fusion.proofs.Fused.{no_wins, no_losses}

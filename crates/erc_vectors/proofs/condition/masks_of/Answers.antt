@@ -1,6 +1,6 @@
 use Rattle.std.proofs.Common.{arith, refl, ap, ◌∙◌}
 use Rattle.std.proofs.lemmas.List.{get_or_default}
-use Rattle.ot_theory.specs.declared.Mark.TheVariants.{W, L, E}
+use Rattle.ot_theory.specs.declared.Mark.TheVariants.{W, E}
 use Rattle.ot_theory.specs.Conditions.{is_win, is_loss}
 use Rattle.erc_vectors.proofs.Bits.{IsMask-set, IsMask-kept}
 use Rattle.erc_vectors.proofs.condition.masks_of.Goals as goal

@@ -1,5 +1,5 @@
 use Rattle.erc_vectors.specs.declared.condition.TheConstants.{LIMIT}
-use Rattle.erc_vectors.specs.Masks.{AreMasks, length-marks_of, IsMask-wins, IsMask-losses}
+use Rattle.erc_vectors.specs.Masks.{length-marks_of, IsMask-wins, IsMask-losses}
 use Rattle.erc_vectors.proofs.condition.Condition.of_masks.Goals as goal
 
 pub returns-clause-width : goal.returns-clause-width

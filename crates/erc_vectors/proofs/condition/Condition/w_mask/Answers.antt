@@ -1,4 +1,3 @@
-use Rattle.std.proofs.Common.{◌≡◌, ◌<◌, ◌^◌, length}
 use Rattle.erc_vectors.specs.declared.condition.TheConstants.{LIMIT}
 use Rattle.erc_vectors.proofs.Bits.{IsMask-seen_wins, width-seen}
 use Rattle.erc_vectors.proofs.condition.Condition.w_mask.Goals as goal

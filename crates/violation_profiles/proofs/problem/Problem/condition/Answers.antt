@@ -1,5 +1,4 @@
-use Rattle.std.proofs.Common.{◌≡◌, List, length, refl, sym, ◌∙◌}
-use Rattle.ot_theory.specs.declared.Mark.{Mark}
+use Rattle.std.proofs.Common.{◌≡◌, length, refl, sym, ◌∙◌}
 use Rattle.ot_theory.specs.Conditions.{condition, is_win, is_loss}
 use Rattle.erc_vectors.proofs.Bits.{IsMask-below, masks-apart}
 use Rattle.violation_profiles.proofs.Masked.{length-condition, same-masks}
