@@ -1,3 +1,4 @@
 pub mod Stratum
 pub mod Opened
 pub mod Masked
+pub mod Stuck

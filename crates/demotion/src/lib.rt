@@ -15,4 +15,5 @@ mod tests;
 
 pub use demoted::{Demoted, demote, least_hierarchy, open_flags};
 pub use order::order_of;
+pub use rounds::is_hopeless;
 pub use shared::demoted_goes;

@@ -1,4 +1,4 @@
-ghost use Rattle.std.specs.Prelude.{◌≡◌, ◌+◌, ◌++◌, ◌≤◌, List, IsTrue, All, map, take, length, fold, max};
+ghost use Rattle.std.specs.Prelude.{◌≡◌, ◌+◌, ◌++◌, ◌≤◌, List, IsTrue, All, map, take, length};
 ghost use Rattle.ot_theory.specs.declared.Mark.{Mark};
 ghost use Rattle.ot_theory.specs.Rankings.{IsRanking};
 ghost use Rattle.ot_theory.specs.Conditions.{keeps};
@@ -14,28 +14,16 @@ pub fn order_of(s: &Strata) -> Order
     ensures ranking { IsRanking (length s.now) result }
     ensures keeping { (set : List (List Mark)) → All (λ marks. IsTrue (satisfies s.now marks) × (length marks ≡ length s.now)) set → All (λ marks. IsTrue (keeps result marks)) set }
 {
+    prove!(s.width() <= LIMIT);
     let mut list = [ConId(0); LIMIT];
     let mut placed = 0;
-    for above in 0..lowest_stratum(s) {
+    for above in 0..s.lowest() {
         placed = put_stratum(&mut list, placed, s, above + 1);
     }
     match Order::of(&list[..placed]) {
         Some(order) => order,
         None => unreachable!(),
     }
-}
-
-/// The greatest stratum number, and 0 where there is no constraint.
-fn lowest_stratum(s: &Strata) -> u8
-    ensures greatest { result ≡ fold max 0 s.now }
-    ensures from_one { All (λ level. 1 ≤ level) s.now }
-    ensures small { length s.now ≤ LIMIT }
-{
-    let mut lowest = 0;
-    for c in 0..s.width() {
-        lowest = lowest.max(s.level(ConId(c as u16)));
-    }
-    lowest
 }
 
 /// Writes the constraints of a stratum, ascending, behind those that are placed, and answers how many are placed then.

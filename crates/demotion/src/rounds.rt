@@ -38,6 +38,25 @@ pub(crate) fn place_in_rounds(levels: &mut [u8], set: &[Condition]) -> u64
     placed
 }
 
+/// Whether no ranking keeps conditions that are each of n constraints. It takes no memory, and builds no hierarchy: the placed
+/// constraints, as bits, are its only state. The bits that stand for no constraint are set in the first round.
+pub fn is_hopeless(n: usize, set: &[Condition]) -> bool
+    requires within { n ≤ LIMIT }
+    requires widths { All (λ marks. length marks ≡ n) set.now }
+    ensures { result ≡ no_ranking_keeps n set.now }
+{
+    prove!(n <= LIMIT);
+    let mut placed = 0;
+    while placed != u64::MAX {
+        let more = placed | !blocked_by(placed, set);
+        if more == placed {
+            return true;
+        }
+        placed = more;
+    }
+    false
+}
+
 /// The constraints at which a condition has L of whose W's none is placed.
 fn blocked_by(placed: u64, set: &[Condition]) -> u64
     requires { All (λ marks. length marks ≤ LIMIT) set.now }

@@ -106,8 +106,7 @@ condition-at : (problem : Problem) (others : List theory.Term) (these : List Ter
     → (k < length these) × (get_or those k e ≡ condition_of problem (term_of (get_or these k d)))
 condition-at problem others these those k d e other below =
     let long : length those ≡ length these = ap (λ (l : List (List Mark)). length l) other.each ∙ length-map (terms_in these) (condition_of problem) ∙ length-map these term_of in
-    let within : k < length these = omega (arith, long) in
-    (
+    let within : k < length these = omega (arith, long) in (
       within,
       ap (λ (l : List (List Mark)). get_or l k e) other.each
           ∙ get_or-map (condition_of problem) (terms_in these) k (term_of d) e (omega (arith, length-map these term_of))

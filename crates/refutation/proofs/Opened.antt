@@ -95,7 +95,7 @@ opened problem whole terms set conditions flags genuine one e widths h flagged_s
     let flags_are : flags ≡ flags_of problem levels whole = flagged_so.opened ∙ ap (map (is_open levels)) e in
     let those : terms_in terms ≡ filter (opens problem levels) (terms_in whole) = ap terms_in (kept.those ∙ ap (flagged whole) flags_are) ∙ terms-flagged problem levels whole in
     let each : conditions ≡ map (condition_of problem) (filter (opens problem levels) (terms_in whole)) =
-        kept.each ∙ rw (flags_are, e) (conditions-flagged problem levels whole) in
+    kept.each ∙ rw (flags_are, e) (conditions-flagged problem levels whole) in
     let core = certificate-open problem levels (terms_in whole) (rw e at widths) (rw e at flagged_so.guarded) (rw e at h) in
     record {
       genuine = sym (list_all-map (is_term problem) term_of terms) ∙ rw those (all-filter (is_term problem) (opens problem levels) (terms_in whole) (list_all-map (is_term problem) term_of whole ∙ genuine));

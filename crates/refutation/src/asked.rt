@@ -37,7 +37,13 @@ impl Asked {
 
     /// Adds a class of an input against each other class of it. A term is left out where its condition has no L, or is implied
     /// by that of a term from this place on.
-    pub fn add(&mut self, p: &Problem, input: InId, winner: ClassId, from: usize) -> Result<(), NoMemory>
+    pub fn add(
+        &mut self,
+        p: &Problem,
+        input: InId,
+        winner: ClassId,
+        from: usize,
+    ) -> Result<(), NoMemory>
         requires input { input.0 < length p.now.inputs }
         requires class { winner.0 < length (classes_at p.now input.0) }
         ensures asked { OnOk result ((whole : List theory.Term) → AreAsked p.now whole self.old.terms.items self.old.conditions.items
@@ -97,7 +103,12 @@ impl Asked {
         ensures conditions { OnOk result (Begins self.old.conditions.items self.new.conditions.items) }
     {
         let condition = condition_of(p, &term);
-        if is_implied(self.conditions.as_slice(), from, self.conditions.len(), &condition) {
+        if is_implied(
+            self.conditions.as_slice(),
+            from,
+            self.conditions.len(),
+            &condition,
+        ) {
             return Ok(());
         }
         push_term(&mut self.terms, term)?;

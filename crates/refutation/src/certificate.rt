@@ -10,10 +10,10 @@ ghost use Rattle.erc_vectors.specs.declared.condition.TheConstants.{LIMIT};
 ghost use Rattle.refutation.specs.Asked.{AreKept};
 ghost use Rattle.refutation.specs.Terms.{are_terms, terms_in};
 
+use crate::asked::Asked;
 use crate::contradiction::Contradiction;
 use crate::term::{Term, conditions_of};
-use crate::asked::Asked;
-use demotion::{least_hierarchy, open_flags};
+use demotion::{is_hopeless, open_flags};
 use erc_vectors::{Condition, LIMIT, List, NoMemory};
 use std::alloc::Global;
 use violation_profiles::Problem;
@@ -57,11 +57,18 @@ pub fn core_of_conditions(
         conditions: open_conditions,
     } = asked;
     let kept = kept_terms(alloc, p, open_terms.as_slice(), open_conditions)?;
-    Contradiction::of(alloc, &kept)
+    Ok(Contradiction {
+        terms: List::from_vec(kept),
+    })
 }
 
 /// Puts the terms with a flag, and their conditions, into the lists.
-fn keep_open(asked: &mut Asked, terms: &[Term], conditions: &[Condition], flags: &[bool]) -> Result<(), NoMemory>
+fn keep_open(
+    asked: &mut Asked,
+    terms: &[Term],
+    conditions: &[Condition],
+    flags: &[bool],
+) -> Result<(), NoMemory>
     requires terms { asked.old.terms.items ≡ [] }
     requires conditions { asked.old.conditions.items ≡ [] }
     requires long { length flags.now ≡ length terms.now }
@@ -148,13 +155,4 @@ fn last_needed(n: usize, kept: usize, conditions: &[Condition]) -> usize
         }
     }
     last
-}
-
-/// Whether no ranking keeps the conditions.
-pub(crate) fn is_hopeless(n: usize, conditions: &[Condition]) -> bool
-    requires within { n ≤ LIMIT }
-    requires widths { All (λ marks. length marks ≡ n) conditions.now }
-    ensures { result ≡ no_ranking_keeps n conditions.now }
-{
-    least_hierarchy(n, conditions).is_none()
 }

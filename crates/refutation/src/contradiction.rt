@@ -13,7 +13,6 @@ use crate::term::{Term, condition_of, is_term};
 use erc_fusion::{fuse, is_contradiction};
 use erc_vectors::{Condition, List, NoMemory};
 use ot_base::{ClassId, INPUT_LIMIT};
-use std::alloc::Global;
 use violation_profiles::Problem;
 
 /// Some terms, in order. Those of a genuine contradiction show that no ranking makes each of their winners optimal.
@@ -24,18 +23,11 @@ pub struct Contradiction {
 
 impl Contradiction {
     /// An equal contradiction.
-    pub fn copy(&self, alloc: Global) -> Result<Contradiction, NoMemory>
+    pub fn copy(&self) -> Result<Contradiction, NoMemory>
         ensures { IfOk result (λ copy. copy ≡ self.now) }
     {
-        Contradiction::of(alloc, self.terms.as_slice())
-    }
-
-    /// The contradiction of these terms.
-    pub(crate) fn of(alloc: Global, terms: &[Term]) -> Result<Contradiction, NoMemory>
-        ensures { IfOk result (λ contradiction. contradiction.terms ≡ terms.now) }
-    {
         Ok(Contradiction {
-            terms: List::of(alloc, terms)?,
+            terms: self.terms.copy()?,
         })
     }
 }

@@ -26,7 +26,7 @@ pub use asked::Asked;
 pub use certificate::{core_of, core_of_conditions};
 pub use contradiction::{Contradiction, fusion_of, is_genuine};
 pub use laws::genuine_refutes;
-pub use prefix::Prefix;
+pub use prefix::{Prefix, is_prefix};
 pub use refuting::{deletion_core, refutes, terms_of};
 pub use shared::{contradictions_go, typologies_go};
 pub use term::{Term, condition_of, conditions_of};

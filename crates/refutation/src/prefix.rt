@@ -1,12 +1,14 @@
 //! The first classes of a choice.
 
-ghost use Rattle.std.specs.Prelude.{◌≡◌, [], ◌∷◌, ◌++◌, IfOk};
+ghost use Rattle.std.specs.Prelude.{◌≡◌, true, false, [], ◌∷◌, ◌++◌, IfOk};
 ghost use Rattle.refutation.specs.Prefixes.{class_numbers};
+ghost use Rattle.violation_profiles.specs.WellFormed.{IsPrefix};
 
 use erc_vectors::{List, NoMemory};
-use ot_base::ClassId;
+use ot_base::{ClassId, InId};
 use std::alloc::Global;
 use std::marker::Model;
+use violation_profiles::Problem;
 
 /// The first classes of a choice of one class for each input, in the order of the inputs: none, or all, or any number between.
 /// A contract sees it as the list of their numbers, each from 0 on.
@@ -39,7 +41,7 @@ impl Prefix {
         ensures { IfOk result (λ prefix. prefix ≡ class_numbers classes.now) }
     {
         Ok(Prefix {
-            classes: copied(alloc, classes)?,
+            classes: List::of(alloc, classes)?,
         })
     }
 
@@ -51,26 +53,37 @@ impl Prefix {
     }
 
     /// An equal prefix.
-    pub fn copy(&self, alloc: Global) -> Result<Prefix, NoMemory>
+    pub fn copy(&self) -> Result<Prefix, NoMemory>
         ensures { IfOk result (λ copy. copy ≡ self.now) }
     {
         Ok(Prefix {
-            classes: copied(alloc, self.classes.as_slice())?,
+            classes: self.classes.copy()?,
         })
     }
 
     /// The prefix with this class of the next input behind its own.
-    pub fn child(&self, alloc: Global, c: ClassId) -> Result<Prefix, NoMemory>
+    pub fn child(&self, c: ClassId) -> Result<Prefix, NoMemory>
         ensures { IfOk result (λ child. child ≡ self.now ++ c.0 ∷ []) }
     {
-        let mut classes = copied(alloc, self.classes.as_slice())?;
+        let mut classes = self.classes.copy()?;
         classes.push(c)?;
         Ok(Prefix { classes })
     }
 }
 
-fn copied(alloc: Global, classes: &[ClassId]) -> Result<List<ClassId>, NoMemory>
-    ensures { IfOk result (λ copy. copy ≡ classes.now) }
+/// Whether these are the first classes of a choice of the problem: at most as many as it has inputs, and each one of its input.
+/// It takes no memory.
+pub fn is_prefix(p: &Problem, classes: &[ClassId]) -> bool
+    ensures holds { result ≡ true → IsPrefix p.now (class_numbers classes.now) }
+    ensures fails { result ≡ false → IsPrefix p.now (class_numbers classes.now) → ⊥ }
 {
-    List::of(alloc, classes)
+    if classes.len() > p.inputs() {
+        return false;
+    }
+    for (i, class) in classes.iter().enumerate() {
+        if class.0 as usize >= p.classes(InId(i as u32)) {
+            return false;
+        }
+    }
+    true
 }

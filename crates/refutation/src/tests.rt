@@ -4,11 +4,11 @@ ghost use Rattle.ot_theory.specs.Languages.{refuted};
 ghost use Rattle.refutation.specs.Prefixes.{class_numbers};
 ghost use Rattle.violation_profiles.specs.WellFormed.{IsPrefix};
 
-use crate::certificate::is_hopeless;
 use crate::{
     Contradiction, Prefix, Term, condition_of, conditions_of, core_of, deletion_core, is_genuine,
-    refutes, terms_of, winner_terms,
+    is_prefix, refutes, terms_of, winner_terms,
 };
+use demotion::is_hopeless;
 use erc_vectors::{ConId, List, NoMemory};
 use ot_base::{CandidateRow, ClassId, InId, InputRows, Label, Tableau};
 use std::alloc::Global;
@@ -146,7 +146,7 @@ fn certificate(rt: &impl Abort, alloc: Global, rows: &Rows) -> Result<String, Fa
     assert!(rt; is_hopeless(problem.constraints(), &conditions));
     let core = core_of(alloc, &problem, terms.as_slice())?;
     assert!(rt; is_genuine(&problem, &core));
-    let copy = core.copy(alloc)?;
+    let copy = core.copy()?;
     shown(alloc, copy.terms.as_slice())
 }
 
@@ -196,21 +196,6 @@ fn condition_of_a_term(rt: HostRuntime) -> Result<(), Fail> {
     }
     assert_eq!(rt; text.as_str(), "WLE EWL ");
     Ok(())
-}
-
-/// Whether each class is one of its input.
-fn is_prefix(problem: &Problem, prefix: &[ClassId]) -> bool
-    ensures { result ≡ true → IsPrefix problem.now (class_numbers prefix.now) }
-{
-    if prefix.len() > problem.inputs() {
-        return false;
-    }
-    for (i, class) in prefix.iter().enumerate() {
-        if class.0 as usize >= problem.classes(InId(i as u32)) {
-            return false;
-        }
-    }
-    true
 }
 
 /// Whether no ranking keeps the conditions of a prefix.
@@ -298,8 +283,8 @@ fn refuted_prefixes(rt: HostRuntime) -> Result<(), Fail> {
 #[test]
 fn children_and_copies(rt: HostRuntime) -> Result<(), Fail> {
     let alloc = rt.alloc();
-    let first = Prefix::empty(alloc).child(alloc, ClassId(4))?;
-    let both = first.child(alloc, ClassId(2))?.copy(alloc)?;
+    let first = Prefix::empty(alloc).child(ClassId(4))?;
+    let both = first.child(ClassId(2))?.copy()?;
     assert_eq!(rt; first.as_slice(), [ClassId(4)].as_slice());
     assert_eq!(rt; both.as_slice(), [ClassId(4), ClassId(2)].as_slice());
     Ok(())

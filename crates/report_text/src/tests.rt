@@ -150,8 +150,8 @@ fn terms_that_no_ranking_keeps(rt: HostRuntime) -> Result<(), Fail> {
 }
 
 fn prefix(alloc: Global, classes: &[u16; 2]) -> Result<Prefix, NoMemory> {
-    let first = Prefix::empty(alloc).child(alloc, ClassId(classes[0]))?;
-    first.child(alloc, ClassId(classes[1]))
+    let first = Prefix::empty(alloc).child(ClassId(classes[0]))?;
+    first.child(ClassId(classes[1]))
 }
 
 fn language(

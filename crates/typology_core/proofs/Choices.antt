@@ -28,10 +28,10 @@ use Rattle.typology_core.specs.Gathered.{first_refuting}
 use Rattle.typology_core.specs.Indexed.{is_last, IsAscending, HoldsRefuting, IsLaidOut, IsIndex}
 
 -- ---- what a prefix makes
-abbrev is_made : List ℕ → Term → Bool
+abbrev pub is_made : List ℕ → Term → Bool
 is_made prefix term = option_map_or (λ a. a == term.winner) (slice_get prefix term.input) false
 
-made_at : (prefix : List ℕ) (i w : ℕ) → option_map_or (λ a. a == w) (slice_get prefix i) false ≡ true → (i < length prefix) × (slice_index prefix i ≡ w)
+pub made_at : (prefix : List ℕ) (i w : ℕ) → option_map_or (λ a. a == w) (slice_get prefix i) false ≡ true → (i < length prefix) × (slice_index prefix i ≡ w)
 made_at [] i w h = absurd (cc)
 made_at (x ∷ prefix) zero w h = (omega arith, eqb-true x w h)
 made_at (x ∷ prefix) (suc i) w h = let r = made_at prefix i w h in (omega (arith, r.0), r.1)
@@ -55,7 +55,7 @@ earlier prefix k (t ∷ terms) long h none =
     let at = made_at prefix t.input t.winner parts.0 in
     let before : t.input < k = elim (cases_eq t.input k) [
       | inl same ↦ absurd (let yes : gives k (slice_index prefix k) t ≡ true = and_from _ _ (eq-eqb t.input k same) (eq-eqb t.winner (slice_index prefix k) (sym at.1 ∙ ap (slice_index prefix) same)) in
-            let bad : true ≡ false = sym yes ∙ no.0 in cc)
+          let bad : true ≡ false = sym yes ∙ no.0 in cc)
       | inr other ↦ omega (arith, at.0)
     ] in
     and_from _ _ (made_front prefix t.input t.winner k before parts.0) (earlier prefix k terms long parts.1 no.1)
@@ -281,8 +281,7 @@ last-within problem terms i a genuine last =
     let is : is_term problem t ≡ true = AllPass-from_list_all (is_term problem) terms (each_term problem terms genuine) f.at nothing f.within in
     let three = and_parts _ (not (t.loser == t.winner)) is in
     let two = and_parts _ (nat_lt t.loser (length (classes_at problem t.input))) three.0 in
-    let one = and_parts (nat_lt t.input (length problem.inputs)) (nat_lt t.winner (length (classes_at problem t.input))) two.0 in
-    (
+    let one = and_parts (nat_lt t.input (length problem.inputs)) (nat_lt t.winner (length (classes_at problem t.input))) two.0 in (
       omega (arith, input, ltb-true t.input (length problem.inputs) one.0),
       omega (arith, winner, ap (λ (x : ℕ). length (classes_at problem x)) input, ltb-true t.winner (length (classes_at problem t.input)) one.1),
     )

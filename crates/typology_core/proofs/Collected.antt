@@ -18,7 +18,7 @@ use Rattle.refutation.specs.Typologies.{found_of}
 use Rattle.typology_core.specs.declared.deed.Deed as done
 use Rattle.typology_core.specs.Gathered.{deeds_of}
 use Rattle.typology_core.proofs.Ascending.{order, sorted-languages, sorted-cuts, sorted-same}
-use Rattle.typology_core.proofs.Reached.{languages-told, cuts-told}
+use Rattle.typology_core.proofs.Reached.{languages-collected, cuts-collected}
 
 pub flat_map-append : {X Y : Type 0} (f : X → List Y) (xs ys : List X) → flat_map f (xs ++ ys) ≡ flat_map f xs ++ flat_map f ys
 flat_map-append f [] ys = refl
@@ -43,15 +43,15 @@ list_more f h (x ∷ xs) (suc k) d below =
     ∙ ap (λ (l : List _). l ++ flat_map f (h (get_or xs k d))) (sym (flat_map-append f (h x) (flat_map h (take k xs)))))
 
 -- with one deed more
-pub deed-told : {X Y Z : Type 0} (f : Y → List Z) (g : X → Y) (xs : List X) (k : ℕ) (x : X) (start old new : List Z) → k < length xs → x ≡ get_or xs k x → old ≡ start ++ flat_map f (map g (take k xs)) → new ≡ old ++ f (g x) → new ≡ start ++ flat_map f (map g (take (k + 1) xs))
-deed-told f g xs k x start old new below here before added =
+pub deed-collected : {X Y Z : Type 0} (f : Y → List Z) (g : X → Y) (xs : List X) (k : ℕ) (x : X) (start old new : List Z) → k < length xs → x ≡ get_or xs k x → old ≡ start ++ flat_map f (map g (take k xs)) → new ≡ old ++ f (g x) → new ≡ start ++ flat_map f (map g (take (k + 1) xs))
+deed-collected f g xs k x start old new below here before added =
     added ∙ ap (λ (l : List _). l ++ f (g x)) before ∙ append_assoc start (flat_map f (map g (take k xs))) (f (g x))
     ∙ ap (λ (y : _). start ++ (flat_map f (map g (take k xs)) ++ f (g y))) here
     ∙ ap (λ (l : List _). start ++ l) (sym (deed_more f g xs k x below))
 
 -- with one list of deeds more
-pub list-told : {X Y Z : Type 0} (f : Y → List Z) (h : X → List Y) (xs : List X) (k : ℕ) (x : X) (old new : List Z) → k < length xs → x ≡ get_or xs k x → old ≡ flat_map f (flat_map h (take k xs)) → new ≡ old ++ flat_map f (h x) → new ≡ flat_map f (flat_map h (take (k + 1) xs))
-list-told f h xs k x old new below here before added =
+pub list-collected : {X Y Z : Type 0} (f : Y → List Z) (h : X → List Y) (xs : List X) (k : ℕ) (x : X) (old new : List Z) → k < length xs → x ≡ get_or xs k x → old ≡ flat_map f (flat_map h (take k xs)) → new ≡ old ++ flat_map f (h x) → new ≡ flat_map f (flat_map h (take (k + 1) xs))
+list-collected f h xs k x old new below here before added =
     added ∙ ap (λ (l : List _). l ++ flat_map f (h x)) before
     ∙ ap (λ (y : _). flat_map f (flat_map h (take k xs)) ++ flat_map f (h y)) here
     ∙ sym (list_more f h xs k x below)
@@ -86,10 +86,10 @@ languages-members all k before sorted list past told moved e =
 abbrev HasLeast : Problem → List ℕ × List ℕ → Type 0
 HasLeast problem language = IsLeastHierarchy problem.constraints (conditions_of problem language.0) language.1
 
-least-told : (problem : Problem) (deeds : List Deed) → AreHonest problem deeds → All (HasLeast problem) (languages_in deeds)
-least-told problem [] h = All-nil (HasLeast problem)
-least-told problem (deed ∷ deeds) h =
-    by deed.fate (All-head (λ (d : Deed). IsTrueOf problem d.prefix d.fate) deed deeds h) (least-told problem deeds (All-tail (λ (d : Deed). IsTrueOf problem d.prefix d.fate) deed deeds h))
+least-collected : (problem : Problem) (deeds : List Deed) → AreHonest problem deeds → All (HasLeast problem) (languages_in deeds)
+least-collected problem [] h = All-nil (HasLeast problem)
+least-collected problem (deed ∷ deeds) h =
+    by deed.fate (All-head (λ (d : Deed). IsTrueOf problem d.prefix d.fate) deed deeds h) (least-collected problem deeds (All-tail (λ (d : Deed). IsTrueOf problem d.prefix d.fate) deed deeds h))
   where
     by : (fate : Fate) → IsTrueOf problem deed.prefix fate → All (HasLeast problem) (languages_in deeds) → All (HasLeast problem) (language_by deed.prefix fate ++ languages_in deeds)
     by Opened t rest = rest
@@ -97,13 +97,13 @@ least-told problem (deed ∷ deeds) h =
     by (Cut terms) t rest = rest
 
 -- The languages that honest and balanced deeds tell, sorted, are those of the problem, each with its least hierarchy.
-pub typology-told : (problem : Problem) (deeds : List Deed) → AllClasses problem.constraints problem.inputs → AreHonest problem deeds → AreBalanced problem deeds
+pub typology-collected : (problem : Problem) (deeds : List Deed) → AllClasses problem.constraints problem.inputs → AreHonest problem deeds → AreBalanced problem deeds
     → (found : List (List ℕ × List ℕ)) → IsPermutation (languages_in deeds) found → IsSorted order (map (λ language. language.0) found) → IsTypology problem found
-typology-told problem deeds classes honest balanced found members sorted = record {
+typology-collected problem deeds classes honest balanced found members sorted = record {
   all = sorted-same (map (λ language. language.0) found) (languages problem) sorted (sorted-languages problem)
       (λ p. sum_by-IsPermutation _ (map (λ language. language.0) (languages_in deeds)) (map (λ language. language.0) found) (IsPermutation-map (λ language. language.0) (languages_in deeds) found members)
-      ∙ languages-told problem deeds classes honest balanced p);
-  least = All-permutation (HasLeast problem) (languages_in deeds) found members (least-told problem deeds honest);
+      ∙ languages-collected problem deeds classes honest balanced p);
+  least = All-permutation (HasLeast problem) (languages_in deeds) found members (least-collected problem deeds honest);
 }
 
 -- The prefixes that they cut off, sorted, are the cuts of the problem.
@@ -111,4 +111,4 @@ pub cuts-sorted : (problem : Problem) (deeds : List Deed) → AllClasses problem
     → (prefixes : List (List ℕ)) → IsPermutation (cuts_in deeds) prefixes → IsSorted order prefixes → prefixes ≡ cuts problem
 cuts-sorted problem deeds classes honest balanced prefixes members sorted =
     sorted-same prefixes (cuts problem) sorted (sorted-cuts problem)
-    (λ p. sum_by-IsPermutation _ (cuts_in deeds) prefixes members ∙ cuts-told problem deeds classes honest balanced p)
+    (λ p. sum_by-IsPermutation _ (cuts_in deeds) prefixes members ∙ cuts-collected problem deeds classes honest balanced p)

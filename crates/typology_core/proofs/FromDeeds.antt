@@ -16,7 +16,7 @@ use Rattle.typology_core.proofs.Counts.{times-cons, times-filter}
 use Rattle.typology_core.proofs.Fitting.{fits, fits-short, times-prefixes}
 use Rattle.typology_core.proofs.Reached.{is_behind_cut}
 use Rattle.typology_core.proofs.Ascending.{order, times-first}
-use Rattle.typology_core.proofs.Collected.{cuts-sorted, typology-told}
+use Rattle.typology_core.proofs.Collected.{cuts-sorted, typology-collected}
 
 pub AllClasses-well_formed : (problem : Problem) → IsWellFormed problem → AllClasses problem.constraints problem.inputs
 AllClasses-well_formed problem w = All-weaker (IsWellFormedInput problem.constraints) (λ (i : Input). AreClasses problem.constraints i.classes) (λ i h. h.classes) problem.inputs w.each
@@ -72,7 +72,7 @@ gathered-refuted problem deeds prefixes w honest balanced members sorted =
 
 pub gathered-languages : (problem : Problem) (deeds : List Deed) (found : List (List ℕ × List ℕ)) → IsWellFormed problem → AreHonest problem deeds → AreBalanced problem deeds
     → IsPermutation (languages_in deeds) found → IsSorted order (map (λ language. language.0) found) → IsTypology problem found
-gathered-languages problem deeds found w honest balanced members sorted = typology-told problem deeds (AllClasses-well_formed problem w) honest balanced found members sorted
+gathered-languages problem deeds found w honest balanced members sorted = typology-collected problem deeds (AllClasses-well_formed problem w) honest balanced found members sorted
 
 pub record AreCertified (problem : Problem) (named : List (List ℕ × ℕ)) (listed : List (List Term)) : Type 0 where
   pub cuts : named ≡ map (λ cut. (cut, certificate_named problem cut)) (cuts problem)

@@ -4,13 +4,12 @@ pub mod Reached
 pub mod Ascending
 pub mod Children
 pub mod Extensions
-pub mod Running
-pub mod Waiting
 pub mod Collected
 pub mod Named
 pub mod FromDeeds
 pub mod Levels
 pub mod Choices
+pub mod Sieving
 pub mod Below
 pub mod Walking
 pub mod Whole

@@ -161,24 +161,24 @@ children-none problem (q ∷ opened) =
     longer (x ∷ l) k = refl
 
 -- the deeds of a prefix are those of the three fates
-abbrev choices_told : List Deed → List (List ℕ)
-choices_told deeds = map (λ language. language.0) (languages_in deeds)
+abbrev choices_collected : List Deed → List (List ℕ)
+choices_collected deeds = map (λ language. language.0) (languages_in deeds)
 
 map-language-append : (xs ys : List (List ℕ × List ℕ)) → map (λ (l : List ℕ × List ℕ). l.0) (xs ++ ys) ≡ map (λ l. l.0) xs ++ map (λ l. l.0) ys
 map-language-append [] ys = refl
 map-language-append (x ∷ xs) ys = ap (λ (l : List (List ℕ)). x.0 ∷ l) (map-language-append xs ys)
 
-by_fate : (p : List ℕ) (deeds : List Deed) → times p (map (λ deed. deed.prefix) deeds) ≡ times p (opened_in deeds) + (times p (choices_told deeds) + times p (cuts_in deeds))
+by_fate : (p : List ℕ) (deeds : List Deed) → times p (map (λ deed. deed.prefix) deeds) ≡ times p (opened_in deeds) + (times p (choices_collected deeds) + times p (cuts_in deeds))
 by_fate p [] = refl
 by_fate p (deed ∷ deeds) =
     times-cons p deed.prefix (map (λ d. d.prefix) deeds)
     ∙ ap (λ n. cond (same p deed.prefix) 1 0 + n) (by_fate p deeds)
     ∙ by deed.fate
   where
-    by : (fate : Fate) → cond (same p deed.prefix) 1 0 + (times p (opened_in deeds) + (times p (choices_told deeds) + times p (cuts_in deeds)))
+    by : (fate : Fate) → cond (same p deed.prefix) 1 0 + (times p (opened_in deeds) + (times p (choices_collected deeds) + times p (cuts_in deeds)))
         ≡ times p (opened_by deed.prefix fate ++ opened_in deeds) + (times p (map (λ (l : List ℕ × List ℕ). l.0) (language_by deed.prefix fate ++ languages_in deeds)) + times p (cut_by deed.prefix fate ++ cuts_in deeds))
     by Opened = omega (arith, times-cons p deed.prefix (opened_in deeds))
-    by (Language levels) = omega (arith, times-cons p deed.prefix (choices_told deeds))
+    by (Language levels) = omega (arith, times-cons p deed.prefix (choices_collected deeds))
     by (Cut terms) = omega (arith, times-cons p deed.prefix (cuts_in deeds))
 
 -- what is told of a prefix is true of it
@@ -207,13 +207,13 @@ opened-holds problem p (deed ∷ deeds) h some = by deed.fate (All-head (IsTrueD
     by (Language levels) t others some = others some
     by (Cut terms) t others some = others some
 
-language-holds : (problem : Problem) (p : List ℕ) (deeds : List Deed) → AreHonest problem deeds → 0 < times p (choices_told deeds) → (refuted problem p ≡ false) × (length p ≡ length problem.inputs)
+language-holds : (problem : Problem) (p : List ℕ) (deeds : List Deed) → AreHonest problem deeds → 0 < times p (choices_collected deeds) → (refuted problem p ≡ false) × (length p ≡ length problem.inputs)
 language-holds problem p [] h some = absurd (omega arith)
 language-holds problem p (deed ∷ deeds) h some = by deed.fate (All-head (IsTrueDeed problem) deed deeds h) (λ more. language-holds problem p deeds (All-tail (IsTrueDeed problem) deed deeds h) more) some
   where
-    by : (fate : Fate) → IsTrueOf problem deed.prefix fate → (0 < times p (choices_told deeds) → (refuted problem p ≡ false) × (length p ≡ length problem.inputs)) → 0 < times p (map (λ (l : List ℕ × List ℕ). l.0) (language_by deed.prefix fate ++ languages_in deeds)) → (refuted problem p ≡ false) × (length p ≡ length problem.inputs)
+    by : (fate : Fate) → IsTrueOf problem deed.prefix fate → (0 < times p (choices_collected deeds) → (refuted problem p ≡ false) × (length p ≡ length problem.inputs)) → 0 < times p (map (λ (l : List ℕ × List ℕ). l.0) (language_by deed.prefix fate ++ languages_in deeds)) → (refuted problem p ≡ false) × (length p ≡ length problem.inputs)
     by Opened t others some = others some
-    by (Language levels) t others some = elim (times-here p deed.prefix (choices_told deeds) some) [
+    by (Language levels) t others some = elim (times-here p deed.prefix (choices_collected deeds) some) [
       | inl here ↦ (ap (refuted problem) here ∙ t.0, ap (λ (l : List ℕ). length l) here ∙ t.1)
       | inr later ↦ others later
     ]
@@ -273,7 +273,7 @@ full-not-short m n h = elim (eqb_tells m n) [
 
 Told-shares : (problem : Problem) (deeds : List Deed) (p : List ℕ) → AllClasses problem.constraints problem.inputs → AreHonest problem deeds → times p (map (λ deed. deed.prefix) deeds) ≡ cond (is_reached problem p) 1 0 → Told problem deeds p
 Told-shares problem deeds p classes honest once =
-    let s = shares (times p (opened_in deeds)) (times p (choices_told deeds)) (times p (cuts_in deeds)) (is_reached problem p) (refuted problem p) (nat_lt (length p) (length problem.inputs)) (is_full problem.inputs p)
+    let s = shares (times p (opened_in deeds)) (times p (choices_collected deeds)) (times p (cuts_in deeds)) (is_reached problem p) (refuted problem p) (nat_lt (length p) (length problem.inputs)) (is_full problem.inputs p)
     (sym (by_fate p deeds) ∙ once)
     (λ some. let t = opened-holds problem p deeds honest some in (t.0, lt-ltb _ _ t.1))
     (λ some. let t = language-holds problem p deeds honest some in (t.0, full (t.1)))
@@ -332,10 +332,10 @@ pub Told-balanced : (problem : Problem) (deeds : List Deed) → AllClasses probl
 Told-balanced problem deeds classes honest balanced p = Told-shares problem deeds p classes honest (once problem deeds classes honest balanced (length p) p refl)
 
 -- Of honest and balanced deeds the languages are those of the problem, each once.
-pub languages-told : (problem : Problem) (deeds : List Deed) → AllClasses problem.constraints problem.inputs → AreHonest problem deeds → AreBalanced problem deeds
+pub languages-collected : (problem : Problem) (deeds : List Deed) → AllClasses problem.constraints problem.inputs → AreHonest problem deeds → AreBalanced problem deeds
     → (p : List ℕ) → times p (map (λ language. language.0) (languages_in deeds)) ≡ times p (languages problem)
 unfolding languages
-languages-told problem deeds classes honest balanced p =
+languages-collected problem deeds classes honest balanced p =
     (Told-balanced problem deeds classes honest balanced p).language
     ∙ by (fits problem.inputs p) (is_behind_cut problem p) (refuted problem p) (is_full problem.inputs p) (kept-reached problem p)
     ∙ ap (λ n. cond (not (refuted problem p)) n 0) (sym (times-choices problem.inputs p))
@@ -350,10 +350,10 @@ languages-told problem deeds classes honest balanced p =
     by false behind false full h = refl
 
 -- Of honest and balanced deeds the prefixes cut off are the cuts of the problem, each once.
-pub cuts-told : (problem : Problem) (deeds : List Deed) → AllClasses problem.constraints problem.inputs → AreHonest problem deeds → AreBalanced problem deeds
+pub cuts-collected : (problem : Problem) (deeds : List Deed) → AllClasses problem.constraints problem.inputs → AreHonest problem deeds → AreBalanced problem deeds
     → (p : List ℕ) → times p (cuts_in deeds) ≡ times p (cuts problem)
 unfolding cuts
-cuts-told problem deeds classes honest balanced p =
+cuts-collected problem deeds classes honest balanced p =
     (Told-balanced problem deeds classes honest balanced p).cut
     ∙ by (fits problem.inputs p) (is_behind_cut problem p) (refuted problem p)
     ∙ ap (λ n. cond (refuted problem p && not (is_behind_cut problem p)) n 0) (sym (times-prefixes problem.inputs p))

@@ -32,6 +32,7 @@ use Rattle.refutation.proofs.TermsOfPrefixes.{certificate-refutes, made-one, ter
 use Rattle.typology_core.specs.Gathered.{AreGenuine, IsCertified, first_refuting}
 use Rattle.typology_core.specs.Indexed.{IsIndex}
 use Rattle.typology_core.specs.Places.{IsIndexOf}
+use Rattle.typology_core.specs.Sieved.{AreMarked}
 use Rattle.typology_core.specs.declared.index.Index.{Index}
 use Rattle.typology_core.specs.Below.{cuts_below, languages_below}
 use Rattle.typology_core.specs.Walked.{AreAllBelow, AreMore, IsDone, IsEntered, IsFoundOf, IsPathOf, IsReached, IsSamePath, choices_of, cut_prefixes, prefix_of}
@@ -139,10 +140,10 @@ asked-child problem prefix i a terms conditions long h = rw (terms_of-push probl
 
 -- the index with the new certificate
 pub index-new : (problem : Problem) (old new : Found) (core : Contradiction) (index : Index) (terms : List program.Term) → new.certificates ≡ old.certificates ++ core ∷ [] → new.index ≡ index → terms ≡ core.terms
-    → IsIndex problem (certificates_of old.certificates ++ terms_in terms ∷ []) index.widest index.places.items → IsIndexOf problem new.certificates new.index
-index-new problem old new core index terms certificates same those h =
+    → IsIndex problem (certificates_of old.certificates ++ terms_in terms ∷ []) index.widest index.places.items → AreMarked (certificates_of old.certificates ++ terms_in terms ∷ []) index.places.items index.marks.items → IsIndexOf problem new.certificates new.index
+index-new problem old new core index terms certificates same those h m =
     let more : certificates_of new.certificates ≡ certificates_of old.certificates ++ terms_in core.terms ∷ [] = ap certificates_of certificates ∙ map-append (λ (c : Contradiction). terms_in c.terms) old.certificates (core ∷ []) in
-    rw (same, more, ← those) h
+    rw same (record { places = rw (more, ← those) h; marks = rw (more, ← those) m })
 
 pub cut-same : (p q : List ℕ) (m n : ℕ) → p ≡ q → m ≡ n → ◌≡◌ {A = Cut} (record { prefix = p; certificate = m }) (record { prefix = q; certificate = n })
 cut-same p q m n e f = rw (e, f) refl
@@ -161,8 +162,7 @@ pub with-language : (problem : Problem) (old new : Found) (language : Language) 
     → new.languages ≡ old.languages ++ language ∷ [] → new.cuts ≡ old.cuts → new.certificates ≡ old.certificates → new.index ≡ old.index → IsFoundOf problem new × AreMore [] (prefix ∷ []) old new
 with-language problem old new language levels prefix h choice strata least pushed cuts certificates index =
     let more : found_of new.languages ≡ found_of old.languages ++ (prefix, levels) ∷ [] =
-    ap found_of pushed ∙ map-append (λ (l : Language). (l.choice, l.strata)) old.languages (language ∷ []) ∙ rw (choice, strata) refl in
-    (
+    ap found_of pushed ∙ map-append (λ (l : Language). (l.choice, l.strata)) old.languages (language ∷ []) ∙ rw (choice, strata) refl in (
       record {
         certified = rw (cuts, certificates) h.certified;
         genuine = rw certificates h.genuine;

@@ -7,13 +7,13 @@ use Rattle.ot_theory.specs.Refutations.{is_contradiction, refutes, with_certific
 use Rattle.refutation.specs.Terms.{terms_in}
 use Rattle.refutation.specs.declared.contradiction.Contradiction.{Contradiction}
 use Rattle.refutation.specs.declared.typology.Cut as typology
-use Rattle.typology_core.specs.declared.deed.Fate as told
+use Rattle.typology_core.specs.declared.deed.Fate as program
 use Rattle.typology_core.specs.declared.deed.Fate.TheVariants as fates
 use Rattle.typology_core.specs.declared.deed.Deed as done
 use Rattle.typology_core.specs.Deeds.{Deed, Fate}
 use Rattle.typology_core.specs.Deeds.Fate.{Opened, Language, Cut}
 
-abbrev pub fate_of : told.Fate → Fate
+abbrev pub fate_of : program.Fate → Fate
 fate_of fates.Opened = Opened
 fate_of (fates.Language levels) = Language levels
 fate_of (fates.Cut contradiction) = Cut (terms_in contradiction.terms)

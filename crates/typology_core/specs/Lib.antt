@@ -1,8 +1,8 @@
 pub mod Deeds
 pub mod Gathered
-pub mod Findings
 pub mod Indexed
 pub mod Places
 pub mod Below
 pub mod Walked
 pub mod Made
+pub mod Sieved

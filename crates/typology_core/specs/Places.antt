@@ -5,7 +5,9 @@ use Rattle.refutation.specs.Typologies.{certificates_of}
 use Rattle.refutation.specs.declared.contradiction.Contradiction.{Contradiction}
 use Rattle.typology_core.specs.declared.index.Index.{Index}
 use Rattle.typology_core.specs.Indexed.{IsIndex}
+use Rattle.typology_core.specs.Sieved.{AreMarked}
 
 -- this is the index of these certificates
-abbrev pub IsIndexOf : Problem → List Contradiction → Index → Type 0
-IsIndexOf problem certificates index = IsIndex problem (certificates_of certificates) index.widest index.places.items
+pub record IsIndexOf (problem : Problem) (certificates : List Contradiction) (index : Index) : Type 0 where
+  pub places : IsIndex problem (certificates_of certificates) index.widest index.places.items
+  pub marks : AreMarked (certificates_of certificates) index.places.items index.marks.items

@@ -1,16 +1,18 @@
 //! Cuts beside the certificates that they name.
 
-ghost use Rattle.std.specs.Prelude.{◌≡◌, ◌<◌, ℕ, IfOk, IfSome, IfNone, OnOk, All, length, take, true, false};
+ghost use Rattle.std.specs.Prelude.{◌≡◌, ◌<◌, ℕ, [], bit_or, slice_index_or, IfOk, IfSome, IfNone, OnOk, All, length, take, true, false};
 ghost use Rattle.ot_theory.specs.Languages.{refuted};
-ghost use Rattle.ot_theory.specs.Refutations.{with_certificate};
+ghost use Rattle.ot_theory.specs.Refutations.{refutes, with_certificate};
 ghost use Rattle.violation_profiles.specs.WellFormed.{IsPrefix};
 ghost use Rattle.refutation.specs.Typologies.{certificates_of, cuts_of};
 ghost use Rattle.refutation.specs.Prefixes.{class_numbers};
 ghost use Rattle.typology_core.specs.Gathered.{AreGenuine, AreNamed, IsCertified, first_refuting};
 ghost use Rattle.typology_core.specs.Indexed.{HoldsRefuting};
 ghost use Rattle.typology_core.specs.Places.{IsIndexOf};
+ghost use Rattle.typology_core.specs.Sieved.{IsSieve};
 
 use crate::index::Index;
+use crate::sieve::bits_of;
 use erc_vectors::{List, NoMemory};
 use ot_base::ClassId;
 use refutation::{Contradiction, Cut, Prefix, deletion_core, refutes};
@@ -64,7 +66,9 @@ fn name_certificate(
     ensures within { IfOk result (λ place. place < length certificates.new) }
 {
     let classes = prefix.as_slice();
-    if let Some(place) = place_of(certificates.as_slice(), index.places_for(p, classes), classes) {
+    let (places, marks) = index.bucket_for(p, classes);
+    let bits = bits_of(classes);
+    if let Some(place) = place_of(certificates.as_slice(), places, marks, classes, bits) {
         return Ok(place);
     }
     let place = certificates.len();
@@ -74,20 +78,44 @@ fn name_certificate(
     Ok(place)
 }
 
-/// The place of the first contradiction that refutes a prefix. Those that do are at these places.
+/// The place of the first contradiction that refutes a prefix. Those that do are at these places, beside which stand the bits
+/// that they ask for, and those of the prefix are these.
 pub(crate) fn place_of(
     certificates: &[Contradiction],
     places: &[usize],
+    marks: &[u64],
     prefix: &[ClassId],
+    bits: u64,
 ) -> Option<usize>
-    requires { HoldsRefuting (certificates_of certificates.now) (class_numbers prefix.now) places.now }
+    requires refuting { HoldsRefuting (certificates_of certificates.now) (class_numbers prefix.now) places.now }
+    requires sieve { IsSieve (certificates_of certificates.now) (class_numbers prefix.now) places.now marks.now bits }
     ensures some { IfSome result (λ place. (place ≡ first_refuting (certificates_of certificates.now) (class_numbers prefix.now)) × (place < length certificates.now)) }
     ensures none { IfNone result (first_refuting (certificates_of certificates.now) (class_numbers prefix.now) ≡ length certificates.now) }
 {
-    for place in places {
-        if refutes(&certificates[*place], prefix) {
-            return Some(*place);
+    for k in 0..marks.len() {
+        let place = places[k];
+        if refutes_at(certificates, place, marks[k], prefix, bits) {
+            return Some(place);
         }
     }
     None
+}
+
+/// Whether the contradiction at a place refutes a prefix. Where it asks for a bit that the prefix lacks it does not, and is not
+/// looked at.
+fn refutes_at(
+    certificates: &[Contradiction],
+    place: usize,
+    mark: u64,
+    prefix: &[ClassId],
+    bits: u64,
+) -> bool
+    requires within { place < length certificates.now }
+    requires sieve { refutes (slice_index_or (certificates_of certificates.now) place []) (class_numbers prefix.now) ≡ true → bit_or mark bits ≡ bits }
+    ensures { result ≡ refutes (slice_index_or (certificates_of certificates.now) place []) (class_numbers prefix.now) }
+{
+    if mark | bits != bits {
+        return false;
+    }
+    refutes(&certificates[place], prefix)
 }

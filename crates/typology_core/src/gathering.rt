@@ -8,8 +8,8 @@ ghost use Rattle.typology_core.specs.Deeds.{AreBalanced, AreHonest};
 ghost use Rattle.typology_core.specs.Gathered.{AreGenuine, AreNamed, deeds_of};
 
 use crate::certified::certified;
+use crate::collecting::{cut_prefixes, languages};
 use crate::deed::Deeds;
-use crate::told::{cut_prefixes, languages};
 use erc_vectors::NoMemory;
 use ot_base::INPUT_LIMIT;
 use refutation::Typology;

@@ -9,7 +9,9 @@ ghost use Rattle.violation_profiles.specs.WellFormed.{IsPrefix};
 ghost use Rattle.refutation.specs.Prefixes.{class_numbers};
 ghost use Rattle.refutation.specs.Terms.{terms_in};
 ghost use Rattle.typology_core.specs.Indexed.{is_last, HoldsRefuting, IsIndex, IsLaidOut};
+ghost use Rattle.typology_core.specs.Sieved.{AreMarked, AreMarks};
 
+use crate::sieve::mark_of;
 use erc_vectors::{List, NoMemory};
 use ot_base::{ClassId, INPUT_LIMIT, InId};
 use refutation::Term;
@@ -23,49 +25,72 @@ pub(crate) struct Index {
     pub(crate) widest: usize,
     /// The places, in ascending order, of class a of input i at i * widest + a.
     pub(crate) places: Vec<List<usize>>,
+    /// Beside each place the bits of the choices that the certificate asks for.
+    pub(crate) marks: Vec<List<u64>>,
 }
 
 impl Index {
     /// The index of no certificates.
     pub(crate) fn new(alloc: Global, p: &Problem) -> Result<Index, NoMemory>
-        ensures { IfOk result (λ index. IsIndex p.now [] index.widest index.places.items) }
+        ensures places { IfOk result (λ index. IsIndex p.now [] index.widest index.places.items) }
+        ensures marks { IfOk result (λ index. AreMarked [] index.places.items index.marks.items) }
     {
         let widest = widest(p);
         let mut places = Vec::new(alloc);
+        let mut marks = Vec::new(alloc);
         for _ in 0..p.inputs() * widest {
             if places.push(List::new(alloc)).is_err() {
                 return Err(NoMemory);
             }
+            if marks.push(List::new(alloc)).is_err() {
+                return Err(NoMemory);
+            }
         }
-        Ok(Index { widest, places })
+        Ok(Index {
+            widest,
+            places,
+            marks,
+        })
     }
 
-    /// The places of the certificates that give the last input of a prefix its last class as its winner, and no later one any.
-    /// Where no shorter front of the prefix is refuted, those that refute it are among them.
-    pub(crate) fn places_for(&self, p: &Problem, prefix: &[ClassId]) -> &[usize]
+    /// The places of the certificates that give the last input of a prefix its last class as its winner, and no later one any,
+    /// and beside them the bits that each of these asks for. Where no shorter front of the prefix is refuted, those that refute
+    /// it are among them.
+    pub(crate) fn bucket_for(&self, p: &Problem, prefix: &[ClassId]) -> (&[usize], &[u64])
         requires prefix { IsPrefix p.now (class_numbers prefix.now) }
         requires laid_out { IsLaidOut p.now self.now.widest self.now.places.items }
-        ensures { (certificates : List (List theory.Term)) → IsIndex p.now certificates self.now.widest self.now.places.items → All (λ terms. is_contradiction p.now terms ≡ true) certificates
-            → ((k : ℕ) → k < length prefix.now → refuted p.now (take k (class_numbers prefix.now)) ≡ false) → HoldsRefuting certificates (class_numbers prefix.now) result.now }
+        requires as_long { length self.now.marks.items ≡ length self.now.places.items }
+        ensures refuting { (certificates : List (List theory.Term)) → IsIndex p.now certificates self.now.widest self.now.places.items → All (λ terms. is_contradiction p.now terms ≡ true) certificates
+            → ((k : ℕ) → k < length prefix.now → refuted p.now (take k (class_numbers prefix.now)) ≡ false) → HoldsRefuting certificates (class_numbers prefix.now) result.0.now }
+        ensures marks { (certificates : List (List theory.Term)) → AreMarked certificates self.now.places.items self.now.marks.items → AreMarks certificates result.0.now result.1.now }
     {
         prove!(prefix.len() <= p.inputs());
         if prefix.is_empty() {
-            return &[];
+            return (&[], &[]);
         }
         let input = prefix.len() - 1;
-        self.places[input * self.widest + prefix[input].0 as usize].as_slice()
+        let bucket = input * self.widest + prefix[input].0 as usize;
+        (
+            self.places[bucket].as_slice(),
+            self.marks[bucket].as_slice(),
+        )
     }
 
     /// Adds a certificate, which has these terms, with its place behind those of the others.
     pub(crate) fn add(&mut self, p: &Problem, terms: &[Term], place: usize) -> Result<(), NoMemory>
         requires genuine { is_contradiction p.now (terms_in terms.now) ≡ true }
         requires laid_out { IsLaidOut p.now self.old.widest self.old.places.items }
-        ensures { OnOk result ((certificates : List (List theory.Term)) → length certificates ≡ place → IsIndex p.now certificates self.old.widest self.old.places.items
+        requires as_long { length self.old.marks.items ≡ length self.old.places.items }
+        ensures places { OnOk result ((certificates : List (List theory.Term)) → length certificates ≡ place → IsIndex p.now certificates self.old.widest self.old.places.items
             → IsIndex p.now (certificates ++ terms_in terms.now ∷ []) self.new.widest self.new.places.items) }
+        ensures marks { OnOk result ((certificates : List (List theory.Term)) → length certificates ≡ place → IsIndex p.now certificates self.old.widest self.old.places.items → AreMarked certificates self.old.places.items self.old.marks.items
+            → AreMarked (certificates ++ terms_in terms.now ∷ []) self.new.places.items self.new.marks.items) }
     {
         prove!(p.inputs() <= INPUT_LIMIT);
         let (input, winner) = last_choice(terms);
-        self.places[input * self.widest + winner].push(place)
+        let bucket = input * self.widest + winner;
+        self.places[bucket].push(place)?;
+        self.marks[bucket].push(mark_of(terms))
     }
 }
 

@@ -6,25 +6,27 @@
 //! (factorial typology, after Prince and Smolensky), each with its least hierarchy (Tesar and Smolensky, Learnability in
 //! Optimality Theory, 2000), and all shortest refuted prefixes, each with a contradiction that shows it (Prince, Entailed
 //! Ranking Arguments, 2002). The deeds, the cuts and the list of certificates are this project's own, and so is the search of
-//! one worker, which opens the shorter prefixes first and keeps what it learns of refuted ones.
+//! one worker. It walks through the prefixes depth first and in class order, so that languages, cuts and certificates come in
+//! their order and no prefix waits; and it counts how often demotion judges a prefix in a search that opens the shorter ones
+//! first and keeps what it learns of refuted ones.
 #![tactic(auto)]
 
 mod certified;
+mod collecting;
 mod deed;
-mod finding;
 mod gathering;
 mod index;
+mod learning;
 mod lexicographic;
 mod ready;
 mod search;
 #[cfg(test)]
 mod search_tests;
 mod shared;
+mod sieve;
 #[cfg(test)]
 mod tests;
-mod told;
 mod walk;
-mod worker;
 
 pub use deed::{Deed, Deeds, Fate};
 pub use gathering::gather;

@@ -21,7 +21,7 @@ pub(crate) struct Entry {
     pub(crate) asked: Asked,
 }
 
-/// A place for each class of each input.
+/// What the classes of the inputs ask, as far as it is made: a place for each class of each input.
 #[derive(Debug, Drop)]
 pub(crate) struct Ready {
     pub(crate) widest: u16,
@@ -47,7 +47,13 @@ impl Ready {
     }
 
     /// Makes what a class asks, unless it is made.
-    pub(crate) fn make(&mut self, alloc: Global, p: &Problem, input: InId, class: ClassId) -> Result<(), NoMemory>
+    pub(crate) fn make(
+        &mut self,
+        alloc: Global,
+        p: &Problem,
+        input: InId,
+        class: ClassId,
+    ) -> Result<(), NoMemory>
         requires input { input.0 < length p.now.inputs }
         requires class { class.0 < length (classes_at p.now input.0) }
         requires made { AreMade p.now self.old }
@@ -57,7 +63,11 @@ impl Ready {
         if place < self.entries.len() && self.entries[place].is_none() {
             let mut asked = Asked::nothing(alloc);
             asked.add(p, input, class, 0)?;
-            self.entries[place] = Some(Entry { input, class, asked });
+            self.entries[place] = Some(Entry {
+                input,
+                class,
+                asked,
+            });
         }
         Ok(())
     }

@@ -7,6 +7,7 @@ ghost use Rattle.refutation.specs.Typologies.{certificates_of, cuts_of, found_of
 ghost use Rattle.typology_core.specs.Gathered.{AreGenuine, AreNamed};
 ghost use Rattle.typology_core.specs.declared.search.TheConstants.{PLACE_LIMIT};
 
+use crate::learning::learns;
 use crate::ready::Ready;
 use crate::walk::{Found, Path, walk};
 use erc_vectors::NoMemory;
@@ -17,8 +18,8 @@ use violation_profiles::Problem;
 /// The greatest number of places for contradictions that a search may have.
 pub const PLACE_LIMIT: usize = 4_096;
 
-/// What a search of one worker comes to: the typology, and how often it judged a prefix by demotion, which stays at 2^64 - 1
-/// once it is there.
+/// What a search of one worker comes to: the typology, and how often demotion judges a prefix, which stays at 2^64 - 1 once it is
+/// there.
 #[derive(Debug, Drop)]
 pub struct Alone {
     pub typology: Typology,
@@ -28,10 +29,11 @@ pub struct Alone {
 /// The typology of a problem, found by one worker with at most 4,096 places for contradictions: its languages, each with its least
 /// hierarchy (Tesar and Smolensky 2000), and its cuts, each with a certificate (Prince 2002), as `gather` gives them.
 ///
-/// Prefixes wait in a queue, first in, first out, at first the empty one alone. Each is cut off by the first contradiction
-/// among those kept that refutes it. Where there is none it is judged by demotion, and the certificate of a refuted one is kept
-/// if there is a place left. The children of a prefix that holds and is no full choice wait behind the others. The number of
-/// places changes how often demotion judges, and nothing else.
+/// How often demotion judges is told of this search. Prefixes wait in a queue, first in, first out, at first the empty one alone.
+/// Each is cut off by the first contradiction among those kept that refutes it. Where there is none it is judged by demotion, and
+/// the certificate of a refuted one is kept if there is a place left. The children of a prefix that holds and is no full choice
+/// wait behind the others. The number of places changes how often demotion judges, and nothing else; so the typology is found
+/// by a walk that comes to it in order.
 pub fn search_alone(alloc: Global, p: &Problem, places: usize) -> Result<Alone, NoMemory>
     requires { places ≤ PLACE_LIMIT }
     ensures languages { IfOk result (λ alone. IsTypology p.now (found_of alone.typology.languages)) }
@@ -44,7 +46,14 @@ pub fn search_alone(alloc: Global, p: &Problem, places: usize) -> Result<Alone, 
     let mut path = Path::start(alloc);
     let mut found = Found::nothing(alloc, p)?;
     walk(alloc, p, &mut ready, &mut path, &mut found)?;
-    let learns = found.learns(places);
+    let held = path.opened.saturating_add(found.languages.len() as u64);
+    let learns = learns(
+        alloc,
+        held,
+        found.cuts.as_slice(),
+        found.certificates.len(),
+        places,
+    )?;
     Ok(Alone {
         typology: Typology {
             languages: found.languages,

@@ -96,6 +96,7 @@ fn problem(alloc: Global, n: usize, violations: &Violations) -> Result<Problem, 
 fn finds(
     rt: &impl Abort,
     alloc: Global,
+    name: &str,
     problem: &Problem,
     typology: &str,
     learns: &[(usize, u64)],
@@ -103,8 +104,8 @@ fn finds(
     for (places, times) in learns {
         let alone = search_alone(alloc, problem, (*places).min(PLACE_LIMIT))?;
         let text = shown(alloc, &alone.typology)?;
-        assert_eq!(rt; text.as_str(), typology);
-        assert_eq!(rt; alone.learns, *times, "{typology}");
+        assert_eq!(rt; text.as_str(), typology, "{name}");
+        assert_eq!(rt; alone.learns, *times, "{name}, {places} places");
     }
     Ok(())
 }
@@ -115,6 +116,7 @@ fn typologies_with_any_number_of_places(rt: HostRuntime) -> Result<(), Fail> {
     finds(
         &rt,
         alloc,
+        "two codas",
         &problem(alloc, 3, &TWO_CODAS)?,
         "1 1 211\n2 2 121\n3 3 112\n1 2 #1\n1 3 #2\n2 1 #3\n2 3 #4\n3 1 #5\n3 2 #6\n1:1>2 2:2>1 \n1:1>3 2:3>1 \n1:2>1 2:1>2 \n1:2>3 2:3>2 \n1:3>1 2:1>3 \n1:3>2 2:2>3 \n",
         &[(0, 13), (1, 13), (16, 13)],
@@ -122,6 +124,7 @@ fn typologies_with_any_number_of_places(rt: HostRuntime) -> Result<(), Fail> {
     finds(
         &rt,
         alloc,
+        "bounded",
         &problem(alloc, 3, &BOUNDED)?,
         "1 1 211\n2 1 121\n3 1 112\n1 2 #1\n2 2 #1\n3 2 #1\n2:2>1 \n",
         &[(0, 10), (1, 8), (16, 8)],
@@ -129,6 +132,7 @@ fn typologies_with_any_number_of_places(rt: HostRuntime) -> Result<(), Fail> {
     finds(
         &rt,
         alloc,
+        "syllables",
         &problem(alloc, 4, &SYLLABLES)?,
         "1 1 2211\n1 2 3112\n1 3 3121\n2 1 1312\n2 2 1112\n3 1 1321\n3 3 1121\n2 3 #1\n3 2 #2\n1:2>3 2:3>2 \n1:3>2 2:2>3 \n",
         &[(0, 13), (1, 13), (16, 13)],
@@ -136,6 +140,7 @@ fn typologies_with_any_number_of_places(rt: HostRuntime) -> Result<(), Fail> {
     finds(
         &rt,
         alloc,
+        "another certificate",
         &problem(alloc, 4, &OTHER_CERTIFICATE)?,
         "1 2 2121\n2 2 1211\n3 2 2112\n1 1 #1\n1 3 #2\n2 1 #1\n2 3 #3\n3 1 #1\n3 3 #3\n2:1>2 \n1:1>2 2:3>1 \n2:3>2 \n",
         &[(0, 13), (1, 11), (16, 10)],

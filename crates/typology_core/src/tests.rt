@@ -114,7 +114,7 @@ fn honest_deed(alloc: Global, p: &Problem, prefix: &Prefix) -> Result<Deed, NoMe
 {
     let fate = honest_fate(alloc, p, prefix)?;
     Ok(Deed {
-        prefix: prefix.copy(alloc)?,
+        prefix: prefix.copy()?,
         fate,
     })
 }
@@ -140,7 +140,7 @@ fn add_children(
     let length = prefix.as_slice().len();
     prove!(length < p.inputs());
     for a in 0..p.classes(InId(length as u32)) {
-        put(next, prefix.child(alloc, ClassId(a as u16))?)?;
+        put(next, prefix.child(ClassId(a as u16))?)?;
     }
     Ok(())
 }

@@ -1,6 +1,9 @@
 //! A walk through the prefixes of a problem, depth first and in class order.
 //!
-//! It finds the languages and the cuts in lexicographic order, and so it names the certificate of a cut when it comes to it.
+//! It finds the languages and the cuts in lexicographic order, and so it names the certificate of a cut when it comes to it. What
+//! makes it fast: a prefix is first held against the certificates that name its last class, and of these only against those
+//! whose choices may all be its own; what a class asks of a ranking is made once; and the path keeps the conditions of its
+//! classes, without those that earlier ones imply, so that a child adds its own behind them and takes them off again.
 
 ghost use Rattle.std.specs.Prelude.{◌≡◌, ◌<◌, ◌≤◌, ◌+◌, ℕ, List, [], ◌∷◌, ◌++◌, length, true, false, take, IfOk, OnOk, IfSome, IfNone, All};
 ghost use Rattle.ot_base.specs.declared.limits.TheConstants.{INPUT_LIMIT};
@@ -13,12 +16,14 @@ ghost use Rattle.refutation.specs.Prefixes.{class_numbers};
 ghost use Rattle.refutation.specs.Typologies.{certificates_of, cuts_of, found_of};
 ghost use Rattle.typology_core.specs.Gathered.{first_refuting};
 ghost use Rattle.typology_core.specs.Made.{AreMade};
+ghost use Rattle.typology_core.specs.Sieved.{HasBits};
 ghost use Rattle.typology_core.specs.Walked.{AreAllBelow, AreMore, IsDone, IsEntered, IsFoundOf, IsPathOf, IsReached, IsSamePath, IsSettled, IsToOpen, prefix_of};
 
 use crate::certified::place_of;
 use crate::index::Index;
-use demotion::least_hierarchy;
 use crate::ready::Ready;
+use crate::sieve::{bits_of, with_choice};
+use demotion::least_hierarchy;
 use erc_vectors::{Condition, List, NoMemory, Strata};
 use ot_base::{ClassId, INPUT_LIMIT, InId};
 use refutation::{Asked, Contradiction, Cut, Language, Prefix, core_of_conditions};
@@ -30,6 +35,8 @@ use violation_profiles::Problem;
 pub(crate) struct Path {
     pub(crate) classes: Vec<ClassId>,
     pub(crate) asked: Asked,
+    /// How many prefixes the walk went on from. It stays at 2^64 - 1 once it is there.
+    pub(crate) opened: u64,
 }
 
 /// What the walk found so far.
@@ -57,15 +64,18 @@ pub(crate) fn walk(
     ensures more { OnOk result ((n : ℕ) → length path.old.classes.items + n ≡ length p.now.inputs → AreAllBelow p.now n (prefix_of path.old) found.old found.new) }
 {
     if holds(alloc, p, path, found)? {
-        visit(alloc, p, ready, path, found)?;
+        let bits = bits_of(path.classes.as_slice());
+        visit(alloc, p, bits, ready, path, found)?;
     }
     Ok(())
 }
 
-/// Adds the languages and the cuts that extend a prefix which is not refuted and is no full choice.
+/// Adds the languages and the cuts that extend a prefix which is not refuted and is no full choice, and whose choices have these
+/// bits.
 fn visit(
     alloc: Global,
     p: &Problem,
+    bits: u64,
     ready: &mut Ready,
     path: &mut Path,
     found: &mut Found,
@@ -74,6 +84,7 @@ fn visit(
     requires path { IsPathOf p.now path.old }
     requires held { refuted p.now (prefix_of path.old) ≡ false }
     requires shorter { length path.old.classes.items < length p.now.inputs }
+    requires bits { HasBits (prefix_of path.old) bits }
     requires found { IsFoundOf p.now found.old }
     ensures found { OnOk result (IsFoundOf p.now found.new) }
     ensures more { OnOk result ((n : ℕ) → length path.old.classes.items + n ≡ length p.now.inputs → AreAllBelow p.now n (prefix_of path.old) found.old found.new) }
@@ -81,11 +92,14 @@ fn visit(
     ensures made { OnOk result (AreMade p.now ready.new) }
 {
     prove!(p.inputs() <= INPUT_LIMIT);
+    path.opened = path.opened.saturating_add(1);
     let input = InId(path.classes.len() as u32);
     for a in 0..p.classes(input) {
+        let class = ClassId(a as u16);
         let terms = path.asked.terms.len();
-        if enter(alloc, p, ClassId(a as u16), ready, path, found)? {
-            visit(alloc, p, ready, path, found)?;
+        let longer = with_choice(bits, input, class);
+        if enter(alloc, p, class, longer, ready, path, found)? {
+            visit(alloc, p, longer, ready, path, found)?;
             leave(path, input, terms);
         }
     }
@@ -132,6 +146,7 @@ fn enter(
     alloc: Global,
     p: &Problem,
     class: ClassId,
+    bits: u64,
     ready: &mut Ready,
     path: &mut Path,
     found: &mut Found,
@@ -141,15 +156,17 @@ fn enter(
     requires held { refuted p.now (prefix_of path.old) ≡ false }
     requires shorter { length path.old.classes.items < length p.now.inputs }
     requires class { class.0 < length (classes_at p.now (length path.old.classes.items)) }
+    requires bits { HasBits (prefix_of path.old ++ class.0 ∷ []) bits }
     requires found { IsFoundOf p.now found.old }
     ensures entered { IfOk result (λ entered. entered ≡ true → IsEntered p.now class.0 path.old path.new found.old found.new) }
+    ensures bits { IfOk result (λ entered. entered ≡ true → HasBits (prefix_of path.new) bits) }
     ensures settled { IfOk result (λ entered. entered ≡ false → IsDone p.now class.0 path.old path.new found.old found.new) }
     ensures made { OnOk result (AreMade p.now ready.new) }
 {
     prove!(p.inputs() <= INPUT_LIMIT);
     let input = InId(path.classes.len() as u32);
     go_on(&mut path.classes, class)?;
-    if let Some(place) = found.place_of(p, path.classes.as_slice()) {
+    if let Some(place) = found.place_of(p, path.classes.as_slice(), bits) {
         found.add_cut(alloc, path.classes.as_slice(), place)?;
         path.classes.truncate(input.0 as usize);
         return Ok(false);
@@ -167,7 +184,13 @@ fn enter(
 }
 
 /// Adds what a class of an input asks.
-fn ask(p: &Problem, ready: &Ready, input: InId, class: ClassId, asked: &mut Asked) -> Result<(), NoMemory>
+fn ask(
+    p: &Problem,
+    ready: &Ready,
+    input: InId,
+    class: ClassId,
+    asked: &mut Asked,
+) -> Result<(), NoMemory>
     requires input { input.0 < length p.now.inputs }
     requires class { class.0 < length (classes_at p.now input.0) }
     requires made { AreMade p.now ready.now }
@@ -186,7 +209,13 @@ fn ask(p: &Problem, ready: &Ready, input: InId, class: ClassId, asked: &mut Aske
 }
 
 /// The same without what the others imply.
-fn ask_needed(p: &Problem, ready: &Ready, input: InId, class: ClassId, asked: &mut Asked) -> Result<(), NoMemory>
+fn ask_needed(
+    p: &Problem,
+    ready: &Ready,
+    input: InId,
+    class: ClassId,
+    asked: &mut Asked,
+) -> Result<(), NoMemory>
     requires input { input.0 < length p.now.inputs }
     requires class { class.0 < length (classes_at p.now input.0) }
     requires made { AreMade p.now ready.now }
@@ -239,16 +268,12 @@ impl Path {
         Path {
             classes: Vec::new(alloc),
             asked: Asked::nothing(alloc),
+            opened: 0,
         }
     }
 }
 
 impl Found {
-    /// How often a search that opens the shorter prefixes first judges a prefix, with so many places for contradictions.
-    pub(crate) fn learns(&self, places: usize) -> u64 {
-        (self.languages.len() as u64).saturating_add(self.certificates.len() as u64)
-    }
-
     /// What is found before the first step.
     pub(crate) fn nothing(alloc: Global, p: &Problem) -> Result<Found, NoMemory>
         ensures found { IfOk result (λ found. IsFoundOf p.now found) }
@@ -265,17 +290,24 @@ impl Found {
     }
 
     /// The place of the first certificate that refutes a prefix.
-    fn place_of(&self, p: &Problem, classes: &[ClassId]) -> Option<usize>
+    fn place_of(&self, p: &Problem, classes: &[ClassId], bits: u64) -> Option<usize>
         requires reached { IsReached p.now (class_numbers classes.now) }
         requires found { IsFoundOf p.now self.now }
+        requires bits { HasBits (class_numbers classes.now) bits }
         ensures some { IfSome result (λ place. (place ≡ first_refuting (certificates_of self.now.certificates) (class_numbers classes.now)) × (place < length self.now.certificates)) }
         ensures none { IfNone result (first_refuting (certificates_of self.now.certificates) (class_numbers classes.now) ≡ length self.now.certificates) }
     {
-        place_of(self.certificates.as_slice(), self.index.places_for(p, classes), classes)
+        let (places, marks) = self.index.bucket_for(p, classes);
+        place_of(self.certificates.as_slice(), places, marks, classes, bits)
     }
 
     /// Adds a cut that names a certificate.
-    fn add_cut(&mut self, alloc: Global, classes: &[ClassId], certificate: usize) -> Result<(), NoMemory>
+    fn add_cut(
+        &mut self,
+        alloc: Global,
+        classes: &[ClassId],
+        certificate: usize,
+    ) -> Result<(), NoMemory>
         ensures cuts { OnOk result (self.new.cuts ≡ self.old.cuts ++ (record { prefix = class_numbers classes.now; certificate = certificate }) ∷ []) }
         ensures languages { self.new.languages ≡ self.old.languages }
         ensures certificates { self.new.certificates ≡ self.old.certificates }
@@ -306,7 +338,13 @@ impl Found {
     }
 
     /// Adds a language.
-    fn add_language(&mut self, alloc: Global, p: &Problem, path: &Path, strata: Strata) -> Result<(), NoMemory>
+    fn add_language(
+        &mut self,
+        alloc: Global,
+        p: &Problem,
+        path: &Path,
+        strata: Strata,
+    ) -> Result<(), NoMemory>
         requires path { IsPathOf p.now path.now }
         requires least { IsLeastHierarchy p.now.constraints (conditions_of p.now (prefix_of path.now)) strata }
         requires found { IsFoundOf p.now self.old }

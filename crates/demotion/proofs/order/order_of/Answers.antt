@@ -16,7 +16,7 @@ put_stratum-placed-requires c =
     let above = c.loop-above.above in
     let next : length (order_to levels (above + 1)) ≡ length (order_to levels above) + length (in_stratum levels (above + 1)) =
     ap (λ (l : List ℕ). length l) (order_to-more levels above) ∙ length-append (order_to levels above) (in_stratum levels (above + 1)) in
-    record { room = omega (arith, next, length-order_to levels (above + 1), c.loop-above.invariant.count, c.lowest_stratum-above-end.ensures.small) }
+    record { room = omega (arith, next, length-order_to levels (above + 1), c.loop-above.invariant.count, c.width.ensures.small) }
 
 pub loop-above-preserved : goal.loop-above-preserved
 loop-above-preserved c = record {
@@ -26,24 +26,24 @@ loop-above-preserved c = record {
 
 pub unreachable-requires : goal.unreachable-requires
 unreachable-requires c =
-    let from_one = c.lowest_stratum-above-end.ensures.from_one in
-    let all : c.loop-above.above ≡ fold max 0 c.args.s.now = omega (arith, c.lowest_stratum-above-end.ensures.greatest) in
+    let from_one = c.width.ensures.from_one in
+    let all : c.loop-above.above ≡ fold max 0 c.args.s.now = omega (arith, c.lowest-above-end.ensures) in
     let whole : map (λ (x : ConId). x.0) (take c.loop-above.placed c.loop-above.list) ≡ order_along c.args.s.now = c.loop-above.invariant.numbers ∙ ap (order_to c.args.s.now) all in
     let long : length (take c.loop-above.placed c.loop-above.list) ≡ length c.args.s.now = ranking_long c.args.s.now _ from_one whole in
     elim c.in-None.ensures.none [
-      | inl large ↦ omega (arith, long, c.lowest_stratum-above-end.ensures.small)
+      | inl large ↦ omega (arith, long, c.width.ensures.small)
       | inr other ↦ other (rw (long, whole) (IsAlong-order c.args.s.now from_one).ranking)
     ]
 
 pub returns-clause-keeping : goal.returns-clause-keeping
 returns-clause-keeping c = λ set h.
-    let all : c.loop-above.above ≡ fold max 0 c.args.s.now = omega (arith, c.lowest_stratum-above-end.ensures.greatest) in
-    rw (c.in-Some.ensures.some.0, c.loop-above.invariant.numbers, all) (all_kept_along c.args.s.now set c.lowest_stratum-above-end.ensures.from_one h)
+    let all : c.loop-above.above ≡ fold max 0 c.args.s.now = omega (arith, c.lowest-above-end.ensures) in
+    rw (c.in-Some.ensures.some.0, c.loop-above.invariant.numbers, all) (all_kept_along c.args.s.now set c.width.ensures.from_one h)
 
 pub returns-clause-ranking : goal.returns-clause-ranking
 returns-clause-ranking c =
-    let all : c.loop-above.above ≡ fold max 0 c.args.s.now = omega (arith, c.lowest_stratum-above-end.ensures.greatest) in
-    rw (c.in-Some.ensures.some.0, c.loop-above.invariant.numbers, all) (IsAlong-order c.args.s.now c.lowest_stratum-above-end.ensures.from_one).ranking
+    let all : c.loop-above.above ≡ fold max 0 c.args.s.now = omega (arith, c.lowest-above-end.ensures) in
+    rw (c.in-Some.ensures.some.0, c.loop-above.invariant.numbers, all) (IsAlong-order c.args.s.now c.width.ensures.from_one).ranking
 
 pub returns-clause-width : goal.returns-clause-width
 returns-clause-width c = ranking-length (length c.args.s.now) c.in-Some.order (returns-clause-ranking c)

@@ -38,5 +38,5 @@ kept_terms-requires-clause-hopeless c = (those c).hopeless
 pub returns-clause-certificate : goal.returns-clause-certificate
 returns-clause-certificate c =
     let opened_so = opened c.args.p.now c.args.terms.now c.keep_open.new.asked.terms.items c.args.conditions.items c.keep_open.new.asked.conditions.items c.in_ok-flags.flags c.requires.genuine c.requires.one c.requires.conditions c.requires.widths c.requires.hopeless
-        (rw c.deref.ensures.value at c.in_ok-flags.ensures) (rw (c.deref-2.ensures.value, c.as_slice.ensures) at c.in_ok-keep_open.ensures.kept) in
-    IfOk-weaker c.of.result _ _ (λ core e. ap terms_in (e ∙ c.deref-3.ensures.value) ∙ c.in_ok-kept.ensures.certificate ∙ ap (λ l. certificate_of c.args.p.now (terms_in l)) c.as_slice-2.ensures.value ∙ sym opened_so.certificate) c.of.ensures
+    (rw c.deref.ensures.value at c.in_ok-flags.ensures) (rw (c.deref-2.ensures.value, c.as_slice.ensures) at c.in_ok-keep_open.ensures.kept) in
+    ap terms_in c.from_vec.ensures ∙ c.in_ok-kept.ensures.certificate ∙ ap (λ l. certificate_of c.args.p.now (terms_in l)) c.as_slice-2.ensures.value ∙ sym opened_so.certificate

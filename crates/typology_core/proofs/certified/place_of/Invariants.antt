@@ -5,5 +5,5 @@ use Rattle.refutation.specs.Prefixes.{class_numbers}
 use Rattle.refutation.specs.Typologies.{certificates_of}
 use Rattle.typology_core.proofs.certified.place_of.Given as goal
 
-abbrev pub invariant-loop-place : goal.invariant-loop-place
-invariant-loop-place l = (j : ℕ) → j < l.place-index → refutes (get_or (certificates_of l.certificates) (slice_index l.places j) []) (class_numbers l.prefix) ≡ false
+abbrev pub invariant-loop-k : goal.invariant-loop-k
+invariant-loop-k l = (j : ℕ) → j < l.k → refutes (get_or (certificates_of l.certificates) (slice_index l.places j) []) (class_numbers l.prefix) ≡ false

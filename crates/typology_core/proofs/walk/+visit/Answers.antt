@@ -3,9 +3,15 @@ use Rattle.std.proofs.lemmas.List.{length-map}
 use Rattle.ot_base.specs.declared.tableau.ClassId.{ClassId}
 use Rattle.ot_theory.specs.Languages.{classes_at}
 use Rattle.typology_core.specs.Walked.{prefix_of}
-use Rattle.typology_core.proofs.Walking.{back-from, below-children, done-more, entered-more, same-path, same-trans}
+use Rattle.typology_core.proofs.Walking.{back-from, below-children, done-more, entered-more, same-path, same-prefix, same-trans}
 use Rattle.typology_core.proofs.walk.+visit.Goals as goal
 use Rattle.typology_core.proofs.walk.+visit.Goals.{then-branch+in_ok-visit, else-branch}
+
+pub enter-requires-clause-bits : goal.enter-requires-clause-bits
+enter-requires-clause-bits t c =
+    let start = c.args.path.now in
+    let long : length (prefix_of start) ≡ c.len.result = omega (arith, length-map start.classes.items (λ (d : ClassId). d.0), c.len.ensures, start.classes.ok.0) in
+    rw (same-prefix start c.loop-a.path c.loop-a.invariant.path) (c.with_choice-longer.ensures (prefix_of start) long c.requires.bits)
 
 pub loop-a-preserved : goal.loop-a-preserved
 loop-a-preserved t c =

@@ -13,7 +13,7 @@ abbrev pub invariant-loop-a : goal.invariant-loop-a
 invariant-loop-a l = record {
   made : AreMade l.p l.ready;
   sound : IsFoundOf l.p l.found;
-  path : IsSamePath l.initial.path l.path;
-  grown : (n : ℕ) → length l.initial.path.classes.items + (n + 1) ≡ length l.p.inputs
-      → AreMore (flat_map (cuts_below l.p n) (children_below (prefix_of l.initial.path) l.a)) (flat_map (languages_below l.p n) (children_below (prefix_of l.initial.path) l.a)) l.initial.found l.found;
+  path : IsSamePath l.fn.path l.path;
+  grown : (n : ℕ) → length l.fn.path.classes.items + (n + 1) ≡ length l.p.inputs
+      → AreMore (flat_map (cuts_below l.p n) (children_below (prefix_of l.fn.path) l.a)) (flat_map (languages_below l.p n) (children_below (prefix_of l.fn.path) l.a)) l.initial.found l.found;
 }

@@ -15,6 +15,10 @@ place_of-requires-clause-reached c =
     let path = c.args.path.now in
     rw (child-of path c.as_slice.result.now c.go_on.new.classes.items c.args.class c.in_ok-go_on.ensures c.as_slice.ensures.value) (path-child c.args.p.now path c.args.class.0 c.requires.path c.requires.held c.requires.shorter c.requires.class)
 
+pub place_of-requires-clause-bits : goal.place_of-requires-clause-bits
+place_of-requires-clause-bits c =
+    rw (child-of c.args.path.now c.as_slice.result.now c.go_on.new.classes.items c.args.class c.in_ok-go_on.ensures c.as_slice.ensures.value) c.requires.bits
+
 pub returns-in-Some-clause-settled : goal.returns-in-Some-clause-settled
 returns-in-Some-clause-settled c e =
     let problem = c.args.p.now in
@@ -24,7 +28,7 @@ returns-in-Some-clause-settled c e =
     let told : class_numbers c.as_slice-in-Some.result.now ≡ child = child-of path c.as_slice-in-Some.result.now c.go_on.new.classes.items c.args.class c.in_ok-go_on.ensures c.as_slice-in-Some.ensures.value in
     let here = rw seen at c.in-Some.ensures.some in
     let cut = with-old-cut problem c.args.found.now c.add_cut.new.self child c.in-Some.place c.requires.found here c.add_cut.ensures.certificates c.add_cut.ensures.index
-        (c.in_ok-add_cut.ensures.cuts ∙ ap (λ (d : Cut). c.args.found.now.cuts ++ d ∷ []) (cut-same (class_numbers c.as_slice-in-Some.result.now) child c.in-Some.place c.in-Some.place told refl)) c.add_cut.ensures.languages in
+    (c.in_ok-add_cut.ensures.cuts ∙ ap (λ (d : Cut). c.args.found.now.cuts ++ d ∷ []) (cut-same (class_numbers c.as_slice-in-Some.result.now) child c.in-Some.place c.in-Some.place told refl)) c.add_cut.ensures.languages in
     let hopeless = place-refuted problem c.args.found.now child c.in-Some.place c.inputs.ensures.well_formed (path-child problem path c.args.class.0 c.requires.path c.requires.held c.requires.shorter c.requires.class).fits c.requires.found here in
     record {
       stays = record {
@@ -57,7 +61,7 @@ returns-then-branch-clause-entered c e =
     let count : c.len-terms.result ≡ length path.asked.terms.items = omega (arith, c.len-terms.ensures, path.asked.terms.ok.0) in
     let terms : c.forget.new.self.terms.items ≡ path.asked.terms.items = c.forget.ensures.terms ∙ take-front c.len-terms.result path.asked.terms.items c.ask.new.asked.terms.items count c.in_ok-ask.ensures.terms in
     let conditions : c.forget.new.self.conditions.items ≡ path.asked.conditions.items =
-        c.forget.ensures.conditions ∙ take-front c.len-terms.result path.asked.conditions.items c.ask.new.asked.conditions.items (count ∙ sym (length-conditions problem path c.requires.path)) c.in_ok-ask.ensures.conditions in
+    c.forget.ensures.conditions ∙ take-front c.len-terms.result path.asked.conditions.items c.ask.new.asked.conditions.items (count ∙ sym (length-conditions problem path c.requires.path)) c.in_ok-ask.ensures.conditions in
     record {
       here = record {
         reached = rw now (path-child problem path c.args.class.0 c.requires.path c.requires.held c.requires.shorter c.requires.class);
@@ -78,7 +82,7 @@ returns-clause-settled c e =
     let now : class_numbers c.go_on.new.classes.items ≡ prefix_of path ++ c.args.class.0 ∷ [] = child-of path c.go_on.new.classes.items c.go_on.new.classes.items c.args.class c.in_ok-go_on.ensures refl in
     let longer : length c.go_on.new.classes.items ≡ length path.classes.items + 1 = ap (λ (l : List ClassId). length l) c.in_ok-go_on.ensures ∙ length-append path.classes.items (c.args.class ∷ []) in
     let settled = c.in_ok-holds.ensures.settled c.if-branch.false in
-    let child : Path = record { classes = c.go_on.new.classes; asked = c.ask.new.asked } in
+    let child : Path = record { classes = c.go_on.new.classes; asked = c.ask.new.asked; opened = path.opened } in
     record {
       stays = back-from problem path path child child c.leave.new.path c.len.result c.len-terms.result c.requires.path (record { classes = refl; terms = refl; conditions = refl })
           (record { rest = c.args.class ∷ []; whole = c.in_ok-go_on.ensures }) c.in_ok-ask.ensures.terms c.in_ok-ask.ensures.conditions (record { classes = refl; terms = refl; conditions = refl })
@@ -86,3 +90,9 @@ returns-clause-settled c e =
       sound = settled.sound;
       below = λ n count. rw now at (settled.below n (omega (arith, longer, count)));
     }
+
+pub returns-then-branch-clause-bits : goal.returns-then-branch-clause-bits
+returns-then-branch-clause-bits c e =
+    let path = c.args.path.now in
+    let now : class_numbers c.go_on.new.classes.items ≡ prefix_of path ++ c.args.class.0 ∷ [] = child-of path c.go_on.new.classes.items c.go_on.new.classes.items c.args.class c.in_ok-go_on.ensures refl in
+    rw now c.requires.bits

@@ -10,4 +10,4 @@ returns-then-is_implied-clause-asked c whole asked =
 pub returns-clause-asked : goal.returns-clause-asked
 returns-clause-asked c =
     on_ok_weaker c.push_condition.result (λ pushed whole asked. asked-pushed c.args.p.now whole c.args.self.now.terms.items c.push_term.new.terms.items c.args.self.now.conditions.items c.push_condition.new.conditions.items c.args.term c.condition_of-condition.result
-        c.condition_of-condition.ensures.marks c.condition_of-condition.ensures.width c.in_ok-push_term.ensures pushed asked) c.push_condition.ensures
+    c.condition_of-condition.ensures.marks c.condition_of-condition.ensures.width c.in_ok-push_term.ensures pushed asked) c.push_condition.ensures

@@ -22,11 +22,11 @@ loop-k-preserved c =
             conditions = Begins-push _ _ _ _ c.loop-k.invariant.conditions w.in_ok-push_condition.ensures;
           })
       | else-not-is_implied w ↦ rw w.self-is (record {
-          asked = λ problem whole others asked other. asked-spared problem whole others these c.loop-k.self.terms.items those c.loop-k.self.conditions.items k no_term c.index.result.now
-              other below here (rw c.as_slice.ensures.value at (c.is_implied.ensures w.if-not-is_implied.false)) (c.loop-k.invariant.asked problem whole others asked other);
-          terms = c.loop-k.invariant.terms;
-          conditions = c.loop-k.invariant.conditions;
-        })
+        asked = λ problem whole others asked other. asked-spared problem whole others these c.loop-k.self.terms.items those c.loop-k.self.conditions.items k no_term c.index.result.now
+            other below here (rw c.as_slice.ensures.value at (c.is_implied.ensures w.if-not-is_implied.false)) (c.loop-k.invariant.asked problem whole others asked other);
+        terms = c.loop-k.invariant.terms;
+        conditions = c.loop-k.invariant.conditions;
+      })
     ]
 
 pub returns-clause-asked : goal.returns-clause-asked

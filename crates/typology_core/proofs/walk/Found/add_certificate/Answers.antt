@@ -38,11 +38,13 @@ with_cut c =
     let core = c.in_ok-certificate.certificate in
     let own = path-certificate problem path (terms_in core.terms) c.inputs.ensures.well_formed c.requires.path c.requires.refuted (c.in_ok-certificate.ensures.certificate ∙ ap (λ (l : List Term). certificate_of problem (terms_in l)) c.as_slice-2.ensures.value) in
     let certificates : c.add_cut.new.self.certificates ≡ c.args.self.now.certificates ++ core ∷ [] = c.add_cut.ensures.certificates ∙ c.in_ok-push.ensures.ok in
-    let indexed = c.in_ok-add.ensures (certificates_of c.args.self.now.certificates) (length-map c.args.self.now.certificates (λ (d : Contradiction). terms_in d.terms) ∙ sym c.len-place.ensures) c.requires.found.indexed in
+    let count = length-map c.args.self.now.certificates (λ (d : Contradiction). terms_in d.terms) ∙ sym c.len-place.ensures in
+    let indexed = c.in_ok-add.ensures.places (certificates_of c.args.self.now.certificates) count c.requires.found.indexed.places in
+    let marked = c.in_ok-add.ensures.marks (certificates_of c.args.self.now.certificates) count c.requires.found.indexed.places c.requires.found.indexed.marks in
     on_ok_weaker c.add_cut.result (λ pushed. with-new-cut problem c.args.self.now c.add_cut.new.self (prefix_of path) core c.requires.found c.requires.fresh own c.in_ok-certificate.ensures.contradiction certificates
-        (index-new problem c.args.self.now c.add_cut.new.self core c.add.new.self c.as_slice-3.result.now certificates c.add_cut.ensures.index c.as_slice-3.ensures indexed)
-        (pushed ∙ ap (λ (cut : Cut). c.args.self.now.cuts ++ cut ∷ []) (cut-same (class_numbers c.as_slice-4.result.now) (prefix_of path) c.len-place.result (length c.args.self.now.certificates) (ap class_numbers c.as_slice-4.ensures.value) c.len-place.ensures))
-        c.add_cut.ensures.languages) c.add_cut.ensures.cuts
+    (index-new problem c.args.self.now c.add_cut.new.self core c.add.new.self c.as_slice-3.result.now certificates c.add_cut.ensures.index c.as_slice-3.ensures indexed marked)
+    (pushed ∙ ap (λ (cut : Cut). c.args.self.now.cuts ++ cut ∷ []) (cut-same (class_numbers c.as_slice-4.result.now) (prefix_of path) c.len-place.result (length c.args.self.now.certificates) (ap class_numbers c.as_slice-4.ensures.value) c.len-place.ensures))
+    c.add_cut.ensures.languages) c.add_cut.ensures.cuts
 
 pub returns-clause-found : goal.returns-clause-found
 returns-clause-found c = on_ok_weaker c.add_cut.result (λ w. w.sound) (with_cut c)

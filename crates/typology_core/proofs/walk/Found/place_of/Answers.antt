@@ -5,14 +5,21 @@ use Rattle.ot_base.specs.declared.tableau.ClassId.{ClassId}
 use Rattle.ot_theory.specs.Languages.{Term}
 use Rattle.ot_theory.specs.Refutations.{is_contradiction}
 use Rattle.refutation.specs.declared.contradiction.Contradiction.{Contradiction}
+use Rattle.refutation.specs.Prefixes.{class_numbers}
 use Rattle.refutation.specs.Terms.{terms_in}
 use Rattle.refutation.specs.Typologies.{certificates_of}
+use Rattle.typology_core.proofs.Sieving.{IsSieve-marks}
 use Rattle.typology_core.proofs.walk.Found.place_of.Goals as goal
 
-pub place_of-requires : goal.place_of-requires
-place_of-requires c =
+pub place_of-requires-clause-refuting : goal.place_of-requires-clause-refuting
+place_of-requires-clause-refuting c =
     let problem = c.args.p.now in
     let certificates = c.args.self.now.certificates in
     let genuine = All-map (λ (terms : List Term). is_contradiction problem terms ≡ true) (λ (d : Contradiction). terms_in d.terms) certificates c.requires.found.genuine in
-    rw c.as_slice.ensures (c.places_for.ensures (certificates_of certificates) c.requires.found.indexed genuine
+    rw c.as_slice.ensures (c.bucket_for.ensures.refuting (certificates_of certificates) c.requires.found.indexed.places genuine
     (λ k below. c.requires.reached.first k (omega (arith, below, length-map c.args.classes.now (λ (class : ClassId). class.0)))))
+
+pub place_of-requires-clause-sieve : goal.place_of-requires-clause-sieve
+place_of-requires-clause-sieve c =
+    let certificates = c.args.self.now.certificates in
+    rw c.as_slice.ensures (IsSieve-marks (certificates_of certificates) (class_numbers c.args.classes.now) c.bucket_for.result.0.now c.bucket_for.result.1.now c.args.bits (c.bucket_for.ensures.marks (certificates_of certificates) c.requires.found.indexed.marks) c.requires.bits)
