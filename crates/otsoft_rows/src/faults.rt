@@ -1,4 +1,4 @@
-use crate::outside::{Outside, leaves, run_on};
+use crate::outside::{Outside, difference, run_on};
 use crate::reports::CODA;
 use otsoft_run::Status;
 use std::test::Fail;
@@ -10,8 +10,7 @@ const UNREAD: &[u8] = b"otsoft: a.txt could not be read\n";
 const UNWRITTEN: &[u8] = b"otsoft: the output could not be written\n";
 
 /// Two inputs, and in line 5 a violation that is no number.
-const BAD_VIOLATION: &[u8] =
-    b"\t\t\tNoCoda\tMax\tDep\n\
+const BAD_VIOLATION: &[u8] = b"\t\t\tNoCoda\tMax\tDep\n\
         \t\t\tNoCoda\tMax\tDep\n\
         pat\tpat\t1\t1\t0\t0\n\
         \tpa\t0\t0\t1\t0\n\
@@ -21,8 +20,7 @@ const BAD_VIOLATION: &[u8] =
         \tta.ki\t0\t0\t0\t1\n";
 
 /// The same, with a count besides that is no number.
-const BAD_COUNT: &[u8] =
-    b"\t\t\tNoCoda\tMax\tDep\n\
+const BAD_COUNT: &[u8] = b"\t\t\tNoCoda\tMax\tDep\n\
         \t\t\tNoCoda\tMax\tDep\n\
         pat\tpat\t1\t1\t0\t0\n\
         \tpa\t0\t0\t1\t0\n\
@@ -47,7 +45,8 @@ fn each_call_of_the_files_may_fail(rt: HostRuntime) -> Result<(), Fail> {
         } else {
             (Status::Done, CODA.report.as_bytes(), &b""[..])
         };
-        leaves(&rt, case.as_str(), &WORDS, &outside, want)?;
+        let found = difference(rt.alloc(), &WORDS, &outside, want)?;
+        assert_eq!(rt; found, None, "{case}");
     }
     Ok(())
 }
@@ -71,7 +70,8 @@ fn each_write_may_fail(rt: HostRuntime) -> Result<(), Fail> {
         } else {
             (Status::Done, report, &b""[..])
         };
-        leaves(&rt, case.as_str(), &WORDS, &outside, want)?;
+        let found = difference(rt.alloc(), &WORDS, &outside, want)?;
+        assert_eq!(rt; found, None, "{case}");
     }
     Ok(())
 }
@@ -80,11 +80,35 @@ fn each_write_may_fail(rt: HostRuntime) -> Result<(), Fail> {
 #[test]
 fn a_fault_of_the_fault_output_changes_no_status(rt: HostRuntime) -> Result<(), Fail> {
     let rows: [(&str, &[&str], u64, Status, &[u8]); 5] = [
-        ("bad words, nothing taken", &["frob"], 1, Status::BadWords, b""),
+        (
+            "bad words, nothing taken",
+            &["frob"],
+            1,
+            Status::BadWords,
+            b"",
+        ),
         ("a refusal, nothing taken", &WORDS, 1, Status::Refused, b""),
-        ("no file, nothing taken", &["rank", "b"], 1, Status::ReadFault, b""),
-        ("bad words, a part taken", &["frob"], 2, Status::BadWords, b"usage: o"),
-        ("a refusal, a part taken", &WORDS, 2, Status::Refused, b"a.txt:3:"),
+        (
+            "no file, nothing taken",
+            &["rank", "b"],
+            1,
+            Status::ReadFault,
+            b"",
+        ),
+        (
+            "bad words, a part taken",
+            &["frob"],
+            2,
+            Status::BadWords,
+            b"usage: o",
+        ),
+        (
+            "a refusal, a part taken",
+            &WORDS,
+            2,
+            Status::Refused,
+            b"a.txt:3:",
+        ),
     ];
     for (case, words, write, status, err) in &rows {
         let outside = Outside {
@@ -92,7 +116,8 @@ fn a_fault_of_the_fault_output_changes_no_status(rt: HostRuntime) -> Result<(), 
             err_fails: &[*write],
             ..Outside::sound("a.txt", b"\t\t\tA")
         };
-        leaves(&rt, case, words, &outside, (*status, &b""[..], err))?;
+        let found = difference(rt.alloc(), words, &outside, (*status, &b""[..], err))?;
+        assert_eq!(rt; found, None, "{case}");
     }
     Ok(())
 }
@@ -106,7 +131,8 @@ fn missing_files_are_told(rt: HostRuntime) -> Result<(), Fail> {
         ("an empty name", "", "otsoft:  could not be read\n"),
     ] {
         let want = (Status::ReadFault, &b""[..], line.as_bytes());
-        leaves(&rt, case, &["typology", name], &outside, want)?;
+        let found = difference(rt.alloc(), &["typology", name], &outside, want)?;
+        assert_eq!(rt; found, None, "{case}");
     }
     Ok(())
 }
@@ -150,7 +176,8 @@ fn refused_files_are_told(rt: HostRuntime) -> Result<(), Fail> {
     for (name, file, line) in &rows {
         let outside = Outside::sound(name, file);
         let want = (Status::Refused, &b""[..], line.as_bytes());
-        leaves(&rt, line, &["typology", name], &outside, want)?;
+        let found = difference(rt.alloc(), &["typology", name], &outside, want)?;
+        assert_eq!(rt; found, None, "{line}");
     }
     Ok(())
 }

@@ -62,19 +62,24 @@ pub(crate) fn run_on(alloc: Global, words: &[&str], outside: &Outside) -> Result
     Ok(Left { status, out, err })
 }
 
-/// Runs the words, and holds the status, the output and the fault output against those that are wanted.
-pub(crate) fn leaves(
-    rt: &HostRuntime,
-    case: &str,
+/// Runs the words, and says which of the status, the output and the fault output is not the one that is wanted.
+pub(crate) fn difference(
+    alloc: Global,
     words: &[&str],
     outside: &Outside,
     want: (Status, &[u8], &[u8]),
-) -> Result<(), NoMemory> {
-    let left = run_on(rt.alloc(), words, outside)?;
-    assert_eq!(rt; left.status, want.0, "{case}");
-    assert!(rt; left.out.written() == want.1, "{case}: the output");
-    assert!(rt; left.err.written() == want.2, "{case}: the fault output");
-    Ok(())
+) -> Result<Option<&'static str>, NoMemory> {
+    let left = run_on(alloc, words, outside)?;
+    if left.status != want.0 {
+        return Ok(Some("the status"));
+    }
+    if left.out.written() != want.1 {
+        return Ok(Some("the output"));
+    }
+    if left.err.written() != want.2 {
+        return Ok(Some("the fault output"));
+    }
+    Ok(None)
 }
 
 fn files_of(alloc: Global, outside: &Outside) -> Result<MemFiles, NoMemory> {
@@ -83,12 +88,7 @@ fn files_of(alloc: Global, outside: &Outside) -> Result<MemFiles, NoMemory> {
     let bytes = Label::of(alloc, outside.bytes)?;
     files.push((name, bytes))?;
     let fails = numbers(alloc, outside.read_fails)?;
-    Ok(MemFiles::new(
-        alloc,
-        files,
-        outside.read_piece.max(1),
-        fails,
-    ))
+    Ok(MemFiles::new(alloc, files, outside.read_piece.max(1), fails))
 }
 
 fn numbers(alloc: Global, numbers: &[u64]) -> Result<List<u64>, NoMemory> {

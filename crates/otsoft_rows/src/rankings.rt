@@ -1,4 +1,4 @@
-use crate::outside::{Outside, leaves};
+use crate::outside::{Outside, difference};
 use crate::reports::Row;
 use otsoft_run::Status;
 use std::test::Fail;
@@ -188,7 +188,9 @@ fn files_give_their_rankings(rt: HostRuntime) -> Result<(), Fail> {
     ] {
         let outside = Outside::sound("a.txt", row.file.as_bytes());
         let want = (status, row.report.as_bytes(), &b""[..]);
-        leaves(&rt, row.name, &["rank", "a.txt"], &outside, want)?;
+        let case = row.name;
+        let found = difference(rt.alloc(), &["rank", "a.txt"], &outside, want)?;
+        assert_eq!(rt; found, None, "{case}");
     }
     Ok(())
 }

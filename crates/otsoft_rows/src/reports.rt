@@ -1,4 +1,4 @@
-use crate::outside::{Outside, leaves};
+use crate::outside::{Outside, difference};
 use otsoft_run::Status;
 use std::test::Fail;
 
@@ -10,8 +10,7 @@ pub(crate) struct Row {
     pub(crate) report: &'static str,
 }
 
-const CODA_REPORT: &str =
-    "otsoft report 1\ttypology\n\
+const CODA_REPORT: &str = "otsoft report 1\ttypology\n\
         constraints\t3\n\
         constraint\t1\tNoCoda\tNoCoda\n\
         constraint\t2\tMax\tMax\n\
@@ -29,8 +28,7 @@ const CODA_REPORT: &str =
         cuts\t0\n\
         end\n";
 
-const CHAIN_REPORT: &str =
-    "otsoft report 1\ttypology\n\
+const CHAIN_REPORT: &str = "otsoft report 1\ttypology\n\
         constraints\t3\n\
         constraint\t1\tA\tA\n\
         constraint\t2\tB\tB\n\
@@ -51,8 +49,7 @@ const CHAIN_REPORT: &str =
         cuts\t0\n\
         end\n";
 
-const SYLLABLES_REPORT: &str =
-    "otsoft report 1\ttypology\n\
+const SYLLABLES_REPORT: &str = "otsoft report 1\ttypology\n\
         constraints\t4\n\
         constraint\t1\tOns\tOnset\n\
         constraint\t2\tNoC\tNoCoda\n\
@@ -390,7 +387,9 @@ fn files_give_their_reports(rt: HostRuntime) -> Result<(), Fail> {
     for row in &rows {
         let outside = Outside::sound("a.txt", row.file.as_bytes());
         let want = (Status::Done, row.report.as_bytes(), &b""[..]);
-        leaves(&rt, row.name, &["typology", "a.txt"], &outside, want)?;
+        let case = row.name;
+        let found = difference(rt.alloc(), &["typology", "a.txt"], &outside, want)?;
+        assert_eq!(rt; found, None, "{case}");
     }
     Ok(())
 }

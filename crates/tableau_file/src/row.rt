@@ -220,11 +220,7 @@ fn violations_of(alloc: Global, n: usize, cells: &mut Cells<'_>) -> Result<List<
 
 /// The count in billionths and the n violations of a line of which the cells from the column of the count on are left, or
 /// the first fault in them.
-fn numbers_of(
-    alloc: Global,
-    n: usize,
-    mut cells: Cells<'_>,
-) -> Result<(u64, List<u32>), LineError>
+fn numbers_of(alloc: Global, n: usize, mut cells: Cells<'_>) -> Result<(u64, List<u32>), LineError>
     ensures sound { OnOk result ((all : List (List ℕ)) → cells.entry ≡ drop 2 all → number_faults n (map text_of all) ≡ []) }
     ensures count { IfOk result (λ numbers. (all : List (List ℕ)) → cells.entry ≡ drop 2 all → numbers.0 ≡ billionths (cell (map text_of all) 2)) }
     ensures violations { IfOk result (λ numbers. (all : List (List ℕ)) → cells.entry ≡ drop 2 all → numbers.1 ≡ map value_of (constraint_cells n (map text_of all))) }
