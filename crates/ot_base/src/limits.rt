@@ -9,3 +9,6 @@ pub const ROW_LIMIT: usize = 20_000;
 
 /// The greatest violation.
 pub const VIOLATION_LIMIT: u32 = 1_000_000;
+
+/// The greatest number of contradictions that a search may keep.
+pub const PLACE_LIMIT: usize = 4_096;

@@ -18,20 +18,20 @@ fn files_in_memory_are_read(rt: HostRuntime) -> Result<(), Fail> {
     let alloc = rt.alloc();
     let mut fails = List::new(alloc);
     fails.push(3)?;
-    let mut files = MemFiles::new(pairs(alloc)?, 3, fails);
-    let mut buf = [0; 4];
+    let mut files = MemFiles::new(alloc, pairs(alloc)?, 3, fails);
+    let mut buf = *b"----";
     assert_eq!(rt; files.open_file("c"), Err(Failed));
     assert_eq!(rt; files.open_file("a"), Ok(()));
-    for (answer, read) in [
-        (Err(Failed), b"\0\0\0\0"),
-        (Ok(3), b"fir\0"),
-        (Ok(2), b"str\0"),
-        (Ok(0), b"str\0"),
+    for (case, answer, read) in [
+        ("the third call fails", Err(Failed), b"----"),
+        ("a piece", Ok(3), b"fir-"),
+        ("what is left", Ok(2), b"str-"),
+        ("the end", Ok(0), b"str-"),
     ] {
-        assert_eq!(rt; files.read(&mut buf), answer);
-        assert!(rt; buf == *read);
+        assert_eq!(rt; files.read(&mut buf), answer, "{case}");
+        assert!(rt; buf == *read, "{case}");
     }
-    let mut sure = SureFiles::new(pairs(alloc)?);
+    let mut sure = SureFiles::new(alloc, pairs(alloc)?);
     assert_eq!(rt; sure.open_file("c"), Ok(()));
     assert_eq!(rt; sure.read(&mut buf), Ok(0));
     assert_eq!(rt; sure.open_file("a"), Ok(()));
@@ -47,14 +47,14 @@ fn sinks_in_memory_are_written(rt: HostRuntime) -> Result<(), Fail> {
     let mut fails = List::new(alloc);
     fails.push(2)?;
     let mut sink = MemSink::with_room(alloc, 6, 4, fails)?;
-    for (answer, written) in [
-        (Ok(4), "abcd"),
-        (Err(Failed), "abcd"),
-        (Ok(2), "abcdab"),
-        (Err(Failed), "abcdab"),
+    for (case, answer, written) in [
+        ("a piece", Ok(4), "abcd"),
+        ("the second write fails", Err(Failed), "abcd"),
+        ("the room that is left", Ok(2), "abcdab"),
+        ("no room", Err(Failed), "abcdab"),
     ] {
-        assert_eq!(rt; sink.write(b"abcde"), answer);
-        assert!(rt; sink.written() == written.as_bytes());
+        assert_eq!(rt; sink.write(b"abcde"), answer, "{case}");
+        assert!(rt; sink.written() == written.as_bytes(), "{case}");
     }
     assert_eq!(rt; sink.write(b""), Ok(0));
     Ok(())

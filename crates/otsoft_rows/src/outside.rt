@@ -13,6 +13,7 @@ pub(crate) struct Outside<'a> {
     pub(crate) room: usize,
     pub(crate) write_piece: usize,
     pub(crate) write_fails: &'a [u64],
+    pub(crate) err_piece: usize,
     pub(crate) err_fails: &'a [u64],
 }
 
@@ -27,6 +28,7 @@ impl<'a> Outside<'a> {
             room: 1 << 16,
             write_piece: usize::MAX,
             write_fails: &[],
+            err_piece: usize::MAX,
             err_fails: &[],
         }
     }
@@ -49,10 +51,35 @@ pub(crate) fn run_on(alloc: Global, words: &[&str], outside: &Outside) -> Result
         outside.write_piece.max(1),
         numbers(alloc, outside.write_fails)?,
     )?;
-    let mut err = MemSink::with_room(alloc, 1 << 10, 1 << 10, numbers(alloc, outside.err_fails)?)?;
+    let mut err = MemSink::with_room(
+        alloc,
+        1 << 10,
+        outside.err_piece.max(1),
+        numbers(alloc, outside.err_fails)?,
+    )?;
     let words = owned(alloc, words)?;
     let status = run(alloc, words.as_slice(), &mut files, &mut out, &mut err);
     Ok(Left { status, out, err })
+}
+
+/// Runs the words, and says which of the status, the output and the fault output is not the one that is wanted.
+pub(crate) fn difference(
+    alloc: Global,
+    words: &[&str],
+    outside: &Outside,
+    want: (Status, &[u8], &[u8]),
+) -> Result<Option<&'static str>, NoMemory> {
+    let left = run_on(alloc, words, outside)?;
+    if left.status != want.0 {
+        return Ok(Some("the status"));
+    }
+    if left.out.written() != want.1 {
+        return Ok(Some("the output"));
+    }
+    if left.err.written() != want.2 {
+        return Ok(Some("the fault output"));
+    }
+    Ok(None)
 }
 
 fn files_of(alloc: Global, outside: &Outside) -> Result<MemFiles, NoMemory> {
@@ -61,7 +88,7 @@ fn files_of(alloc: Global, outside: &Outside) -> Result<MemFiles, NoMemory> {
     let bytes = Label::of(alloc, outside.bytes)?;
     files.push((name, bytes))?;
     let fails = numbers(alloc, outside.read_fails)?;
-    Ok(MemFiles::new(files, outside.read_piece.max(1), fails))
+    Ok(MemFiles::new(alloc, files, outside.read_piece.max(1), fails))
 }
 
 fn numbers(alloc: Global, numbers: &[u64]) -> Result<List<u64>, NoMemory> {

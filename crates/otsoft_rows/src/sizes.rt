@@ -1,4 +1,4 @@
-use crate::outside::{Left, Outside, run_on};
+use crate::outside::{Outside, difference, run_on};
 use otsoft_run::Status;
 use std::alloc::{AllocError, Global};
 use std::test::Fail;
@@ -77,23 +77,18 @@ fn cut_line(
     write!(report, "{last}\t{number}\n")
 }
 
-fn typology_of(alloc: Global, file: &str) -> Result<Left, erc_vectors::NoMemory> {
-    run_on(
-        alloc,
-        &["typology", "a.txt"],
-        &Outside::sound("a.txt", file.as_bytes()),
-    )
-}
-
 /// Of 65,536 choices, and of many more than could be tried, the search finds the two languages.
 #[test]
 fn many_choices(rt: HostRuntime) -> Result<(), Fail> {
     let alloc = rt.alloc();
     for inputs in [16, 17, 100] {
+        let case = format!(in alloc; "{inputs} inputs")?;
         let file = two_classes(alloc, inputs)?;
-        let left = typology_of(alloc, file.as_str())?;
-        assert_eq!(rt; left.status, Status::Done);
-        assert!(rt; left.out.written() == two_languages(alloc, inputs)?.as_bytes());
+        let report = two_languages(alloc, inputs)?;
+        let outside = Outside::sound("a.txt", file.as_bytes());
+        let want = (Status::Done, report.as_bytes(), &b""[..]);
+        let found = difference(rt.alloc(), &["typology", "a.txt"], &outside, want)?;
+        assert_eq!(rt; found, None, "{case}");
     }
     Ok(())
 }
@@ -148,41 +143,108 @@ fn a_file_is_read_to_its_end(rt: HostRuntime) -> Result<(), Fail> {
     Ok(())
 }
 
-/// A file of as many constraints, and one candidate.
-fn many_constraints(alloc: Global, constraints: usize) -> Result<String, AllocError> {
-    let mut file = String::from_str(alloc, "\t\t")?;
-    for k in 1..=constraints {
-        write!(file, "\tC{k}")?;
+/// A start, a part many times, and an end.
+fn repeated(
+    alloc: Global,
+    start: &[u8],
+    part: &[u8],
+    times: usize,
+    end: &[u8],
+) -> Result<Vec<u8>, AllocError> {
+    let mut bytes = Vec::from_slice(alloc, start)?;
+    for _ in 0..times {
+        bytes.extend_from_slice(part)?;
     }
-    file.push_str("\n\nx\tp\n")?;
-    Ok(file)
+    bytes.extend_from_slice(end)?;
+    Ok(bytes)
 }
 
-/// 64 constraints are accepted, and 65 are too many.
-#[test]
-fn the_greatest_number_of_constraints(rt: HostRuntime) -> Result<(), Fail> {
-    let alloc = rt.alloc();
-    let left = typology_of(alloc, many_constraints(alloc, 64)?.as_str())?;
-    assert_eq!(rt; left.status, Status::Done);
-    let left = typology_of(alloc, many_constraints(alloc, 65)?.as_str())?;
-    assert_eq!(rt; left.status, Status::Refused);
-    assert!(rt; left.err.written() == b"a.txt:1: F4 TooManyConstraints\n".as_slice());
-    Ok(())
+/// Two inputs of 200 candidates each.
+fn two_full_inputs(alloc: Global) -> Result<Vec<u8>, AllocError> {
+    let mut both = repeated(alloc, b"x\tp\n", b"\tp\n", 199, b"y\tp\n")?;
+    for _ in 0..199 {
+        both.extend_from_slice(b"\tp\n")?;
+    }
+    Ok(both)
 }
 
-/// A file longer than the limit is refused before anything else.
+/// What stands at a limit is accepted, and what stands above it is refused at its line.
 #[test]
-fn the_greatest_length(rt: HostRuntime) -> Result<(), Fail> {
+fn limits(rt: HostRuntime) -> Result<(), Fail> {
     let alloc = rt.alloc();
-    let Ok(file) = vec![in alloc; b' '; 16_777_217] else {
-        return Ok(());
-    };
-    let left = run_on(
-        alloc,
-        &["typology", "a.txt"],
-        &Outside::sound("a.txt", file.as_slice()),
-    )?;
-    assert_eq!(rt; left.status, Status::Refused);
-    assert!(rt; left.err.written() == b"a.txt:1: F13 TooLong\n".as_slice());
+    let full = two_full_inputs(alloc)?;
+    let header: &[u8] = b"\t\t\tA\n\n";
+    let rows: [(&str, &[u8], &[u8], usize, &[u8], &str); 10] = [
+        ("64 constraints", b"\t\t", b"\tA", 64, b"\n\nx\tp\n", ""),
+        (
+            "65 constraints",
+            b"\t\t",
+            b"\tA",
+            65,
+            b"\n\nx\tp\n",
+            "a.txt:1: F4 TooManyConstraints\n",
+        ),
+        ("1,000 inputs", header, b"x\tp\ny\tp\n", 500, b"", ""),
+        (
+            "1,001 inputs",
+            header,
+            b"x\tp\ny\tp\n",
+            500,
+            b"x\tp\n",
+            "a.txt:1003: F10 TooManyInputs\n",
+        ),
+        (
+            "200 candidates of an input",
+            header,
+            b"x\tp\n",
+            200,
+            b"",
+            "",
+        ),
+        (
+            "201 candidates of an input",
+            header,
+            b"x\tp\n",
+            201,
+            b"",
+            "a.txt:203: F11 TooManyCandidates\n",
+        ),
+        ("20,000 candidates", header, full.as_slice(), 50, b"", ""),
+        (
+            "20,001 candidates",
+            header,
+            full.as_slice(),
+            50,
+            b"x\tp\n",
+            "a.txt:20003: F11 TooManyCandidates\n",
+        ),
+        (
+            "16,777,216 bytes",
+            b"\t\t\tAAAAAAA\n\nx\tp\n",
+            &[b' '; 1_200],
+            13_981,
+            b"",
+            "",
+        ),
+        (
+            "16,777,217 bytes",
+            b"\xFF\xFE",
+            &[b' '; 1_200],
+            13_981,
+            b"ends behind it.",
+            "a.txt:1: F13 TooLong\n",
+        ),
+    ];
+    for (case, start, part, times, end, line) in rows {
+        let file = repeated(alloc, start, part, times, end)?;
+        let outside = Outside {
+            room: 1 << 20,
+            ..Outside::sound("a.txt", file.as_slice())
+        };
+        let left = run_on(alloc, &["typology", "a.txt"], &outside)?;
+        let is_accepted = left.status == Status::Done;
+        assert_eq!(rt; is_accepted, line.is_empty(), "{case}");
+        assert!(rt; left.err.written() == line.as_bytes(), "{case}");
+    }
     Ok(())
 }

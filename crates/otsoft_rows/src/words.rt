@@ -3,7 +3,7 @@ ghost use Rattle.std.specs.Prelude.{None};
 use crate::outside::{Outside, owned, run_on};
 use erc_vectors::List;
 use ot_base::{Failed, Files, MemSink};
-use otsoft_run::{Status, run};
+use otsoft_run::{Settings, Status, run, settings_of};
 use std::test::Fail;
 
 /// Files of which none opens, and which count the opens.
@@ -23,6 +23,29 @@ impl Files for Closed {
     fn read(&mut self, _buf: &mut [u8]) -> Result<usize, Failed> {
         Ok(0)
     }
+}
+
+/// What the words ask for, by itself: the command and its file.
+#[test]
+fn words_give_settings(rt: HostRuntime) -> Result<(), Fail> {
+    let alloc = rt.alloc();
+    let rows: [(&[&str], &str); 5] = [
+        (&["typology", "a"], "typology a"),
+        (&["rank", "--", "-a"], "rank -a"),
+        (&["--", "rank", ""], "rank "),
+        (&["rank"], "Bad"),
+        (&["frob", "a"], "Bad"),
+    ];
+    for (words, want) in &rows {
+        let owned = owned(alloc, words)?;
+        let given = match settings_of(alloc, owned.as_slice()) {
+            Ok(Settings::Typology { file }) => format!(in alloc; "typology {}", file.as_str())?,
+            Ok(Settings::Rank { file }) => format!(in alloc; "rank {}", file.as_str())?,
+            Err(error) => format!(in alloc; "{error:?}")?,
+        };
+        assert_eq!(rt; given.as_str(), *want, "{words:?}");
+    }
+    Ok(())
 }
 
 #[test]

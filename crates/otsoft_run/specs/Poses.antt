@@ -8,5 +8,5 @@ use Rattle.otsoft_run.specs.declared.posing.PoseError.TheVariants.{Fault, Refuse
 abbrev pub IsReadThrough : Result Posed PoseError → Type 0
 IsReadThrough (Ok posed) = ⊤
 IsReadThrough (Err Fault) = ⊥
-IsReadThrough (Err (Refused line why)) = ⊤
+IsReadThrough (Err (Refused refusal)) = ⊤
 IsReadThrough (Err NoMemory) = ⊥

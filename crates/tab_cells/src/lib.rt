@@ -11,6 +11,8 @@ ghost use Rattle.tab_cells.specs.Cells.{cells_of};
 
 mod pieces;
 mod shared;
+#[cfg(test)]
+mod tests;
 mod texts;
 
 pub use pieces::{Cells, Lines};
@@ -32,51 +34,4 @@ pub fn cells(line: &[u8]) -> Cells<'_>
     ensures few { length result ≤ length line.now + 1 }
 {
     Cells::of(line)
-}
-
-#[cfg(test)]
-mod tests {
-    use super::*;
-
-    #[test]
-    fn cuts_lines(rt: HostRuntime) {
-        let table: [(&str, &[&str]); 10] = [
-            ("", &[]),
-            ("a", &["a"]),
-            ("a\n", &["a"]),
-            ("a\r\nb\rc\n\n\rd", &["a", "b", "c", "", "", "d"]),
-            ("\r\n", &[""]),
-            ("\n\r", &["", ""]),
-            ("\r\r\n", &["", ""]),
-            ("a\r", &["a"]),
-            ("a\tb\n \n", &["a\tb", " "]),
-            ("\nab", &["", "ab"]),
-        ];
-        for (bytes, want) in table {
-            let mut found = lines(bytes.as_bytes());
-            for line in want {
-                assert_eq!(rt; found.next(), Some(line.as_bytes()), "of {bytes:?}");
-            }
-            assert_eq!(rt; found.next(), None, "after {bytes:?}");
-        }
-    }
-
-    #[test]
-    fn cuts_cells(rt: HostRuntime) {
-        let table: [(&str, &[&str]); 6] = [
-            ("", &[""]),
-            ("a", &["a"]),
-            ("a\t", &["a", ""]),
-            ("\t\ta b", &["", "", "a b"]),
-            (" a \t\"b\tc\"", &[" a ", "\"b", "c\""]),
-            ("pat\tpa\r", &["pat", "pa\r"]),
-        ];
-        for (line, want) in table {
-            let mut found = cells(line.as_bytes());
-            for cell in want {
-                assert_eq!(rt; found.next(), Some(cell.as_bytes()), "of {line:?}");
-            }
-            assert_eq!(rt; found.next(), None, "after {line:?}");
-        }
-    }
 }

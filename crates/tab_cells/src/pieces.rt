@@ -4,7 +4,7 @@ ghost use Rattle.std.specs.Prelude.{◌≡◌, ◌∷◌, ◌<◌, length};
 ghost use Rattle.tab_cells.specs.Lines.{lines_of, after_end};
 ghost use Rattle.tab_cells.specs.Cells.{cells_of, cells_left};
 
-use memchr::{memchr, memchr2};
+use memchr::memchr2;
 use std::marker::Model;
 
 /// The lines that are left, each borrowed from the file.
@@ -112,7 +112,8 @@ impl<'a> Iterator for Cells<'a> {
 fn cut_cell(line: &[u8]) -> (&[u8], Option<&[u8]>)
     ensures { cells_of line.now ≡ result.0.now ∷ cells_left result.1 }
 {
-    match memchr(b'\t', line) {
+    // Most cells have one or two bytes, so a plain walk ends before a search of blocks has begun.
+    match line.iter().position(|c| *c == b'\t') {
         Some(at) => (&line[..at], Some(&line[at + 1..])),
         None => (line, None),
     }

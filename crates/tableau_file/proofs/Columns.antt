@@ -7,8 +7,8 @@ use Rattle.std.proofs.lemmas.List.{get_or-drop, drop-drop, drop-map}
 use Rattle.std.proofs.lemmas.List.FromFn.{map-range_with_len_more, length-map-range_with_len, get_or-map-range_with_len}
 use Rattle.std.proofs.lemmas.List.Folds.{list_all_at}
 use Rattle.ot_theory.proofs.Enumeration.{any-map}
-use Rattle.tab_cells.specs.Cells.{text_of}
-use Rattle.tableau_file.specs.Rows.{cell, is_empty, constraint_cells, is_blank}
+use Rattle.tab_cells.specs.Cells.{cells_of, text_of}
+use Rattle.tableau_file.specs.Rows.{texts_of, cell, is_empty, constraint_cells, is_blank}
 use Rattle.tableau_file.specs.Faults.{has_extra}
 
 -- what is left after one turn of the iterator
@@ -18,6 +18,23 @@ rest_next (Some first) old new h = sym (ap (drop 1) h)
 
 pub first_left : (k : ℕ) (cells : List (List ℕ)) → cell (map text_of (drop k cells)) 0 ≡ cell (map text_of cells) k
 first_left k cells = ap (λ texts. cell texts 0) (sym (drop-map text_of k cells)) ∙ get_or-drop k (map text_of cells) 0 [] ∙ ap (cell (map text_of cells)) (add-zero k)
+
+-- the texts of the first two cells, and what is left of a line behind them
+pub input_left : (cells : List (List ℕ)) (line : List ℕ) → cells ≡ cells_of line → cell (map text_of cells) 0 ≡ cell (texts_of line) 0
+input_left cells line is = ap (λ cells. cell (map text_of cells) 0) is
+
+pub candidate_left : (cells next : List (List ℕ)) (line : List ℕ) → cells ≡ cells_of line → next ≡ drop 1 cells → cell (map text_of next) 0 ≡ cell (texts_of line) 1
+candidate_left cells next line is rest = ap (λ cells. cell (map text_of cells) 0) (rest ∙ ap (drop 1) is) ∙ first_left 1 (cells_of line)
+
+pub numbers_left : (cells next last : List (List ℕ)) (line : List ℕ) → cells ≡ cells_of line → next ≡ drop 1 cells → last ≡ drop 1 next → last ≡ drop 2 (cells_of line)
+numbers_left cells next last line is rest further = further ∙ ap (drop 1) (rest ∙ ap (drop 1) is) ∙ drop-drop 1 1 (cells_of line)
+
+-- the cells from the third on, of which the first is the count, and those behind it
+pub third_left : (cells all : List (List ℕ)) → cells ≡ drop 2 all → cell (map text_of cells) 0 ≡ cell (map text_of all) 2
+third_left cells all is = ap (λ cells. cell (map text_of cells) 0) is ∙ first_left 2 all
+
+pub fourth_left : (cells next all : List (List ℕ)) → cells ≡ drop 2 all → next ≡ drop 1 cells → next ≡ drop 3 all
+fourth_left cells next all is rest = rest ∙ ap (drop 1) is ∙ drop-drop 1 2 all
 
 columns-drop : (k a n : ℕ) (texts : List (List ℕ)) → map (cell (drop k texts)) (range_with_len a n) ≡ map (cell texts) (range_with_len (k + a) n)
 columns-drop k a zero texts = refl

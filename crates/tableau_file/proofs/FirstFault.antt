@@ -27,6 +27,22 @@ candidate_first n inputs texts input text why input_is text_is none first =
     let both : input_faults inputs texts ++ candidate_faults inputs texts ≡ why ∷ first.0 = ap (λ faults. faults ++ candidate_faults inputs texts) before ∙ here ∙ first.1 in
     first-append why (input_faults inputs texts ++ candidate_faults inputs texts) (number_faults n texts) (first.0, both)
 
+-- Where the columns of the input and of the candidate have no fault, those of the numbers decide.
+numbers_alone : (n : ℕ) (inputs : List InputRows) (texts : List (List ℕ)) (input text : List ℕ) → input ≡ cell texts 0 → text ≡ cell texts 1
+    → input_faults inputs (input ∷ []) ≡ [] → candidate_faults inputs (input ∷ text ∷ []) ≡ [] → row_faults n inputs texts ≡ number_faults n texts
+numbers_alone n inputs texts input text input_is text_is none sound =
+    let before : input_faults inputs texts ≡ [] = ap (λ t. input_faults inputs (t ∷ [])) (sym input_is) ∙ none in
+    let here : candidate_faults inputs texts ≡ [] = ap (λ t. candidate_faults inputs (cell texts 0 ∷ t ∷ [])) (sym text_is) ∙ ap (λ t. candidate_faults inputs (t ∷ text ∷ [])) (sym input_is) ∙ sound in
+    ap (λ faults. faults ++ candidate_faults inputs texts ++ number_faults n texts) before ∙ ap (λ faults. faults ++ number_faults n texts) here
+
+pub number_first : (n : ℕ) (inputs : List InputRows) (texts : List (List ℕ)) (input text : List ℕ) (why : Why) → input ≡ cell texts 0 → text ≡ cell texts 1
+    → input_faults inputs (input ∷ []) ≡ [] → candidate_faults inputs (input ∷ text ∷ []) ≡ [] → IsFirst why (number_faults n texts) → IsFirst why (row_faults n inputs texts)
+number_first n inputs texts input text why input_is text_is none sound first = (first.0, numbers_alone n inputs texts input text input_is text_is none sound ∙ first.1)
+
+pub no_row_fault : (n : ℕ) (inputs : List InputRows) (texts : List (List ℕ)) (input text : List ℕ) → input ≡ cell texts 0 → text ≡ cell texts 1
+    → input_faults inputs (input ∷ []) ≡ [] → candidate_faults inputs (input ∷ text ∷ []) ≡ [] → number_faults n texts ≡ [] → row_faults n inputs texts ≡ []
+no_row_fault n inputs texts input text input_is text_is none sound numbers = numbers_alone n inputs texts input text input_is text_is none sound ∙ numbers
+
 pub count_first : (n : ℕ) (texts : List (List ℕ)) → is_count (cell texts 2) ≡ false → IsFirst BadCount (number_faults n texts)
 count_first n texts e = (fault (not (list_all is_violation (constraint_cells n texts))) BadViolation ++ fault (has_extra n texts) ExtraCell, rw e refl)
 

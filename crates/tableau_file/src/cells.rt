@@ -4,7 +4,7 @@ ghost use Rattle.std.specs.Prelude.{◌≡◌, not, map, drop, IfOk};
 ghost use Rattle.std.specs.List.{list_any};
 ghost use Rattle.tab_cells.specs.CellText.{text_in};
 ghost use Rattle.tab_cells.specs.Cells.{cells_of, text_of};
-ghost use Rattle.tableau_file.specs.Rows.{texts_of, cell, is_empty};
+ghost use Rattle.tableau_file.specs.Rows.{cell, is_empty};
 
 use erc_vectors::NoMemory;
 use std::alloc::Global;
@@ -37,11 +37,4 @@ pub(crate) fn next_text<'a>(alloc: Global, cells: &mut Cells<'a>) -> Result<Cell
         Some(cell) => tab_cells::unquote(alloc, cell),
         None => Ok(CellText::Borrowed(&[])),
     }
-}
-
-/// The text in a column of a line, counted from 0.
-pub(crate) fn text_at(alloc: Global, line: &[u8], column: usize) -> Result<CellText<'_>, NoMemory>
-    ensures { IfOk result (λ text. text_in text ≡ cell (texts_of line.now) column) }
-{
-    next_text(alloc, &mut cells_from(line, column))
 }

@@ -9,7 +9,7 @@ ghost use Rattle.tableau_file.specs.Rows.{texts_of, cell, is_empty, constraint_c
 ghost use Rattle.tableau_file.specs.Faults.{current, begins_input, candidates_before, all_candidates, input_faults, candidate_faults, number_faults, row_faults, IsFirst};
 
 use crate::Why;
-use crate::cells::{cells_from, has_text, next_text, text_at};
+use crate::cells::{has_text, next_text};
 use crate::numbers::{count_of, violation_of};
 use erc_vectors::{List, NoMemory};
 use ot_base::{CANDIDATE_LIMIT, CandidateRow, INPUT_LIMIT, InputRows, Label, ROW_LIMIT};
@@ -218,18 +218,18 @@ fn violations_of(alloc: Global, n: usize, cells: &mut Cells<'_>) -> Result<List<
     Ok(violations)
 }
 
-/// The count in billionths and the n violations of a line, or the first fault from the column of the count on.
-fn numbers_of(alloc: Global, n: usize, line: &[u8]) -> Result<(u64, List<u32>), LineError>
-    ensures sound { OnOk result (number_faults n (texts_of line.now) ≡ []) }
-    ensures count { IfOk result (λ numbers. numbers.0 ≡ billionths (cell (texts_of line.now) 2)) }
-    ensures violations { IfOk result (λ numbers. numbers.1 ≡ map value_of (constraint_cells n (texts_of line.now))) }
-    ensures fault { (why : Why) → result ≡ Err (LineError.Fault why) → IsFirst why (number_faults n (texts_of line.now)) }
+/// The count in billionths and the n violations of a line of which the cells from the column of the count on are left, or
+/// the first fault in them.
+fn numbers_of(alloc: Global, n: usize, mut cells: Cells<'_>) -> Result<(u64, List<u32>), LineError>
+    ensures sound { OnOk result ((all : List (List ℕ)) → cells.entry ≡ drop 2 all → number_faults n (map text_of all) ≡ []) }
+    ensures count { IfOk result (λ numbers. (all : List (List ℕ)) → cells.entry ≡ drop 2 all → numbers.0 ≡ billionths (cell (map text_of all) 2)) }
+    ensures violations { IfOk result (λ numbers. (all : List (List ℕ)) → cells.entry ≡ drop 2 all → numbers.1 ≡ map value_of (constraint_cells n (map text_of all))) }
+    ensures fault { (why : Why) → result ≡ Err (LineError.Fault why) → (all : List (List ℕ)) → cells.entry ≡ drop 2 all → IsFirst why (number_faults n (map text_of all)) }
 {
-    let text = text_at(alloc, line, 2)?;
+    let text = next_text(alloc, &mut cells)?;
     let Some(count) = count_of(text.bytes()) else {
         return Err(LineError::Fault(Why::BadCount));
     };
-    let mut cells = cells_from(line, 3);
     let violations = violations_of(alloc, n, &mut cells)?;
     if has_text(cells) {
         return Err(LineError::Fault(Why::ExtraCell));
@@ -249,11 +249,12 @@ pub(crate) fn add_row(
     ensures added { OnOk result (inputs.new ≡ with_row n inputs.old (number, texts_of line.now)) }
     ensures fault { (why : Why) → result ≡ Err (LineError.Fault why) → IsFirst why (row_faults n inputs.old (texts_of line.now)) }
 {
-    let input = text_at(alloc, line, 0)?;
+    let mut cells = tab_cells::cells(line);
+    let input = next_text(alloc, &mut cells)?;
     inputs.check_input(input.bytes())?;
-    let text = text_at(alloc, line, 1)?;
+    let text = next_text(alloc, &mut cells)?;
     inputs.check_candidate(input.bytes(), text.bytes())?;
-    let (count, violations) = numbers_of(alloc, n, line)?;
+    let (count, violations) = numbers_of(alloc, n, cells)?;
     let row = CandidateRow {
         text: Label::of(alloc, text.bytes())?,
         count,

@@ -112,109 +112,131 @@ fn is_refused(alloc: Global, bytes: &[u8], line: u32, why: Why) -> bool {
 
 #[test]
 fn files_are_refused(rt: HostRuntime) {
-    let table: [(&[u8], u32, Why); 27] = [
-        (b"", 1, Why::NoConstraints),
-        (b"a\tb\tc\t\n\t\t\tA\nx\tp\n", 1, Why::NoConstraints),
-        (b"\xFF\xFE\t\t\tA\n\nx\tp\n", 1, Why::Utf16),
-        (b"\xFE\xFF", 1, Why::Utf16),
-        (b"\t\t\tA\t\tB\n\nx\tp\n", 1, Why::EmptyName),
-        (b"\t\t\tA\t\" \"\tB\n\t\t\tA\tB\tC\tD\n", 1, Why::EmptyName),
-        (b"\t\t\tA", 3, Why::NoRows),
-        (b"\t\t\tA\n\t\t\tA\n\n\t\n", 3, Why::NoRows),
-        (b"\t\t\tA\n\n\tx", 3, Why::NoInput),
-        (b"\t\t\tA\n\n\n\t\t\t\t1\n", 4, Why::NoInput),
-        (b"\t\t\tA\n\nx", 3, Why::EmptyCandidate),
-        (b"\t\t\tA\n\nx\t\t1.\t2x\n", 3, Why::EmptyCandidate),
-        (b"\t\t\tA\n\t\t\tA\tB\nx\n", 2, Why::ExtraCell),
+    let table: [(&str, &[u8], u32, Why); 28] = [
+        ("nothing", b"", 1, Why::NoConstraints),
         (
+            "three columns",
+            b"a\tb\tc\t\n\t\t\tA\nx\tp\n",
+            1,
+            Why::NoConstraints,
+        ),
+        ("UTF-16", b"\xFF\xFE\t\t\tA\n\nx\tp\n", 1, Why::Utf16),
+        ("UTF-16 in the other order", b"\xFE\xFF", 1, Why::Utf16),
+        (
+            "a gap between names",
+            b"\t\t\tA\t\tB\n\nx\tp\n",
+            1,
+            Why::EmptyName,
+        ),
+        (
+            "a name of a space",
+            b"\t\t\tA\t\" \"\tB\n\t\t\tA\tB\tC\tD\n",
+            1,
+            Why::EmptyName,
+        ),
+        ("names alone", b"\t\t\tA", 3, Why::NoRows),
+        (
+            "blank lines alone",
+            b"\t\t\tA\n\t\t\tA\n\n\t\n",
+            3,
+            Why::NoRows,
+        ),
+        ("no input", b"\t\t\tA\n\n\tx", 3, Why::NoInput),
+        (
+            "a violation alone",
+            b"\t\t\tA\n\n\n\t\t\t\t1\n",
+            4,
+            Why::NoInput,
+        ),
+        ("no candidate", b"\t\t\tA\n\nx", 3, Why::EmptyCandidate),
+        (
+            "no candidate, no count",
+            b"\t\t\tA\n\nx\t\t1.\t2x\n",
+            3,
+            Why::EmptyCandidate,
+        ),
+        (
+            "too many abbreviations",
+            b"\t\t\tA\n\t\t\tA\tB\nx\n",
+            2,
+            Why::ExtraCell,
+        ),
+        (
+            "a cell too many",
             b"\t\t\tA\n\t\t\tA\nx\tp\t1\t0\n\tq\t0\t1\tB\n",
             4,
             Why::ExtraCell,
         ),
-        (b"\t\t\tA\n\nx\tp\t1\t2x\n", 3, Why::BadViolation),
-        (b"\t\t\tA\n\nx\tp\t1\t2x\t3\n", 3, Why::BadViolation),
-        (b"\t\t\tA\n\nx\tp\t1.\t2x\n", 3, Why::BadCount),
         (
+            "a letter",
+            b"\t\t\tA\n\nx\tp\t1\t2x\n",
+            3,
+            Why::BadViolation,
+        ),
+        (
+            "a letter and a cell too many",
+            b"\t\t\tA\n\nx\tp\t1\t2x\t3\n",
+            3,
+            Why::BadViolation,
+        ),
+        (
+            "a point and a letter",
+            b"\t\t\tA\n\nx\tp\t1.\t2x\n",
+            3,
+            Why::BadCount,
+        ),
+        (
+            "above the limit",
             b"\t\t\tA\n\nx\tp\t1\t1000000\n\tq\t0\t1000001\n",
             4,
             Why::BadViolation,
         ),
-        (b"\t\t\tA\n\nx\tp\t1\t0000000001\n", 3, Why::BadViolation),
-        (b"\t\t\tA\n\nx\tp\t1\t1.0\n", 3, Why::BadViolation),
-        (b"\t\t\tA\n\nx\tp\t1\t*\n", 3, Why::BadViolation),
-        (b"\t\t\tA\n\nx\tp\t1234567890\n", 3, Why::BadCount),
-        (b"\t\t\tA\n\nx\tp\t1.2.3\n", 3, Why::BadCount),
-        (b"\t\t\tA\n\nx\tp\t.5\n", 3, Why::BadCount),
-        (b"\t\t\tA\n\nx\tp\t1e3\n", 3, Why::BadCount),
-        (b"\t\t\tA\n\nx\tp\t-1\n", 3, Why::BadCount),
-        (b"\t\t\tA\r\r\nx\tp\r\r\tq\ty\r", 5, Why::BadCount),
+        (
+            "ten digits",
+            b"\t\t\tA\n\nx\tp\t1\t0000000001\n",
+            3,
+            Why::BadViolation,
+        ),
+        (
+            "a decimal",
+            b"\t\t\tA\n\nx\tp\t1\t1.0\n",
+            3,
+            Why::BadViolation,
+        ),
+        ("a star", b"\t\t\tA\n\nx\tp\t1\t*\n", 3, Why::BadViolation),
+        (
+            "a count of ten digits",
+            b"\t\t\tA\n\nx\tp\t1234567890\n",
+            3,
+            Why::BadCount,
+        ),
+        (
+            "ten digits behind the point",
+            b"\t\t\tA\n\nx\tp\t1.0000000001\n",
+            3,
+            Why::BadCount,
+        ),
+        ("two points", b"\t\t\tA\n\nx\tp\t1.2.3\n", 3, Why::BadCount),
+        (
+            "nothing before the point",
+            b"\t\t\tA\n\nx\tp\t.5\n",
+            3,
+            Why::BadCount,
+        ),
+        ("an exponent", b"\t\t\tA\n\nx\tp\t1e3\n", 3, Why::BadCount),
+        ("a sign", b"\t\t\tA\n\nx\tp\t-1\n", 3, Why::BadCount),
+        (
+            "carriage returns",
+            b"\t\t\tA\r\r\nx\tp\r\r\tq\ty\r",
+            5,
+            Why::BadCount,
+        ),
     ];
-    for (bytes, line, why) in table {
-        assert!(rt;
-            is_refused(rt.alloc(), bytes, line, why),
-            "{why:?} of {bytes:?}"
-        );
+    for (case, bytes, line, why) in table {
+        let is_refused = match read_tableau(rt.alloc(), bytes) {
+            Err(ReadError::Refused(refusal)) => refusal == FileRefusal { line, why },
+            _ => false,
+        };
+        assert!(rt; is_refused, "{case}: {why:?} at line {line}");
     }
-}
-
-/// A start, a part many times, and an end.
-fn repeated(
-    alloc: Global,
-    start: &[u8],
-    part: &[u8],
-    times: usize,
-    end: &[u8],
-) -> Result<Vec<u8>, Fail> {
-    let mut bytes = Vec::new(alloc);
-    bytes.extend_from_slice(start)?;
-    for _ in 0..times {
-        bytes.extend_from_slice(part)?;
-    }
-    bytes.extend_from_slice(end)?;
-    Ok(bytes)
-}
-
-/// Each with the greatest number of times that gives no such refusal.
-#[test]
-fn limits_are_kept(rt: HostRuntime) -> Result<(), Fail> {
-    let table: [(&[u8], &[u8], usize, &[u8], u32, Why); 4] = [
-        (
-            b"\t\t",
-            b"\tA",
-            64,
-            b"\n\nx\tp\n",
-            1,
-            Why::TooManyConstraints,
-        ),
-        (
-            b"\t\t\tA\n\n",
-            b"x\tp\ny\tp\n",
-            500,
-            b"",
-            1_003,
-            Why::TooManyInputs,
-        ),
-        (
-            b"\t\t\tA\n\n",
-            b"x\tp\n",
-            200,
-            b"",
-            203,
-            Why::TooManyCandidates,
-        ),
-        (b"\xFF\xFE", &[b'x'; 65_536], 255, b"", 1, Why::TooLong),
-    ];
-    for (start, part, times, end, line, why) in table {
-        let most = repeated(rt.alloc(), start, part, times, end)?;
-        assert!(rt;
-            !is_refused(rt.alloc(), most.as_slice(), line, why),
-            "{why:?}"
-        );
-        let more = repeated(rt.alloc(), start, part, times + 1, end)?;
-        assert!(rt;
-            is_refused(rt.alloc(), more.as_slice(), line, why),
-            "{why:?}"
-        );
-    }
-    Ok(())
 }

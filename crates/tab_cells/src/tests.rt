@@ -1,0 +1,84 @@
+use crate::{CellText, cells, is_empty_cell, lines, unquote};
+use std::test::Fail;
+
+#[test]
+fn cuts_lines(rt: HostRuntime) {
+    let table: [(&str, &[&str]); 10] = [
+        ("", &[]),
+        ("a", &["a"]),
+        ("a\n", &["a"]),
+        ("a\r\nb\rc\n\n\rd", &["a", "b", "c", "", "", "d"]),
+        ("\r\n", &[""]),
+        ("\n\r", &["", ""]),
+        ("\r\r\n", &["", ""]),
+        ("a\r", &["a"]),
+        ("a\tb\n \n", &["a\tb", " "]),
+        ("\nab", &["", "ab"]),
+    ];
+    for (bytes, want) in table {
+        let mut found = lines(bytes.as_bytes());
+        for line in want {
+            assert_eq!(rt; found.next(), Some(line.as_bytes()), "of {bytes:?}");
+        }
+        assert_eq!(rt; found.next(), None, "after {bytes:?}");
+    }
+}
+
+#[test]
+fn cuts_cells(rt: HostRuntime) {
+    let table: [(&str, &[&str]); 6] = [
+        ("", &[""]),
+        ("a", &["a"]),
+        ("a\t", &["a", ""]),
+        ("\t\ta b", &["", "", "a b"]),
+        (" a \t\"b\tc\"", &[" a ", "\"b", "c\""]),
+        ("pat\tpa\r", &["pat", "pa\r"]),
+    ];
+    for (line, want) in table {
+        let mut found = cells(line.as_bytes());
+        for cell in want {
+            assert_eq!(rt; found.next(), Some(cell.as_bytes()), "of {line:?}");
+        }
+        assert_eq!(rt; found.next(), None, "after {line:?}");
+    }
+}
+
+#[test]
+fn takes_the_text_of_cells(rt: HostRuntime) -> Result<(), Fail> {
+    let table = [
+        ("", "", false),
+        ("x", "x", false),
+        (" x ", "x", false),
+        ("   ", "", false),
+        ("\tx\t", "\tx\t", false),
+        ("\"x\"", "x", false),
+        (" \" x y \" ", "x y", false),
+        ("\"a\"\"b\"", "a\"b", true),
+        ("\" \"\"\"\"b \"", "\"\"b", true),
+        ("\"a\"b\"", "a\"b", false),
+        ("\"", "\"", false),
+        ("\"\"", "", false),
+        ("\"\"\"", "\"", false),
+        ("\"\"\"\"", "\"", true),
+        ("\"\"\"\"\"", "\"\"", true),
+        ("\" \"", "", false),
+        ("\"x", "\"x", false),
+        ("x\"y\"", "x\"y\"", false),
+        ("x\"\"y", "x\"\"y", false),
+    ];
+    for (cell, want, made) in table {
+        match unquote(rt.alloc(), cell.as_bytes()) {
+            Ok(text) => {
+                assert_eq!(rt; text.bytes(), want.as_bytes(), "of {cell:?}");
+                assert_eq!(rt; matches!(text, CellText::Made(_)), made, "of {cell:?}");
+            }
+            Err(error) => panic!(rt; "{cell:?}: {error:?}"),
+        }
+        assert_eq!(rt;
+            is_empty_cell(cell.as_bytes()),
+            want.is_empty(),
+            "of {cell:?}"
+        );
+    }
+    Ok(())
+}
