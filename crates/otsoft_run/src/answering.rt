@@ -5,6 +5,7 @@ ghost use Rattle.std.specs.Io.KnownBytes.{Keeps, Appends};
 ghost use Rattle.ot_base.specs.Causes.{next_number};
 ghost use Rattle.ot_base.specs.Outside.{KeepsFiles, SinkRose};
 ghost use Rattle.otsoft_run.specs.declared.judging.Posed.{Posed};
+ghost use Rattle.otsoft_run.specs.Words.{IsWithinLimits};
 ghost use Rattle.otsoft_run.specs.Answers.{Refusal, Judges, ReadsRose, IsReadOut, HasReport, AppendsPart, Says, SaysRefused, SaysUnread, is_after_reading, is_without_output, is_written, written_status, MayContradict, unwritten_line, memory_line, refusal_line, refusal_of};
 
 use crate::lines::{refusal_text, unread_text};
@@ -25,6 +26,7 @@ pub(crate) fn answer<F: Files, O: Sink, E: Sink>(
     out: &mut O,
     err: &mut E,
 ) -> Status
+    requires { IsWithinLimits settings.now }
     ensures words { result ≡ Status.BadWords → ⊥ }
     ensures refused { result ≡ Status.Refused → (verdict : Result Posed Refusal) → Judges settings.now (F.told files.old) verdict → IsErr verdict }
     ensures refused_answered { (refusal : Refusal) → Judges settings.now (F.told files.old) (Err refusal)
