@@ -1,5 +1,5 @@
 -- Cuts that go on behind what was read.
-use Rattle.std.proofs.Common.{◌≡◌, ◌<◌, ℕ, List, [], ◌∷◌, ◌++◌, map, length, Option, Some, None, option_map, append_assoc, append-nil, refl, sym, ap, ◌∙◌, Bor}
+use Rattle.std.proofs.Common.{◌≡◌, ℕ, List, [], ◌∷◌, ◌++◌, map, Option, Some, None, option_map, append_assoc, append-nil, refl, sym, ap, Bor}
 use Rattle.std.proofs.lemmas.List.{map-append}
 use Rattle.otsoft_run.specs.Words.{Given, Cut, only_words, with_word, with_option}
 use Rattle.otsoft_run.specs.CommandLines.{given, shown}

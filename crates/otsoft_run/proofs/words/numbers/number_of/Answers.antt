@@ -1,4 +1,4 @@
-use Rattle.std.proofs.Common.{sym, ◌∙◌, arith, rules}
+use Rattle.std.proofs.Common.{rules}
 use Rattle.otsoft_run.proofs.Numerals.{number-read, number-unread}
 use Rattle.otsoft_run.proofs.words.numbers.number_of.Goals as goal
 
