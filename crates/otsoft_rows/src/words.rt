@@ -1,10 +1,246 @@
 ghost use Rattle.std.specs.Prelude.{None};
 
 use crate::outside::{Outside, owned, run_on};
+use crate::reports::CODA;
 use erc_vectors::List;
 use ot_base::{Failed, Files, MemSink};
-use otsoft_run::{Settings, Status, run, settings_of};
+use otsoft_run::{Settings, Status, WordsError, run, settings_of};
 use std::test::Fail;
+
+/// What words ask for.
+#[derive(Clone, Copy)]
+enum Asked {
+    Typology {
+        file: &'static str,
+        workers: usize,
+        places: usize,
+        schedule: Option<u64>,
+    },
+    Rank {
+        file: &'static str,
+    },
+    Bad,
+}
+
+/// The typology of the file `A`.
+fn typology(workers: usize, places: usize, schedule: Option<u64>) -> Asked {
+    Asked::Typology {
+        file: "A",
+        workers,
+        places,
+        schedule,
+    }
+}
+
+/// A typology without options.
+fn plain(file: &'static str) -> Asked {
+    Asked::Typology {
+        file,
+        workers: 1,
+        places: 1_024,
+        schedule: None,
+    }
+}
+
+/// Whether the answer is what was asked for.
+fn is_asked(answer: &Result<Settings, WordsError>, asked: &Asked) -> bool {
+    match (answer, asked) {
+        (
+            Ok(
+                Settings::Typology {
+                    file,
+                    workers,
+                    places,
+                    schedule,
+                },
+            ),
+            Asked::Typology {
+                file: name,
+                workers: count,
+                places: room,
+                schedule: number,
+            },
+        ) => { file.as_str() == *name && workers == count && places == room && schedule == number }
+        (Ok(Settings::Rank { file }), Asked::Rank { file: name }) => file.as_str() == *name,
+        (Err(WordsError::Bad), Asked::Bad) => true,
+        _ => false,
+    }
+}
+
+#[test]
+fn words_give_their_settings(rt: HostRuntime) -> Result<(), Fail> {
+    let rank = Asked::Rank { file: "A" };
+    let rows: [(&str, &[&str], Asked); 21] = [
+        ("no option", &["typology", "A"], plain("A")),
+        ("a ranking", &["rank", "A"], rank),
+        ("a file of no name", &["typology", ""], plain("")),
+        ("a file named by a dash", &["typology", "-"], plain("-")),
+        ("dashes first", &["--", "typology", "A"], plain("A")),
+        ("dashes last", &["typology", "A", "--"], plain("A")),
+        ("a dashed file", &["typology", "--", "-a"], plain("-a")),
+        ("dashes twice", &["typology", "--", "--"], plain("--")),
+        (
+            "a zero in front",
+            &["typology", "A", "--workers=02"],
+            typology(2, 1_024, None),
+        ),
+        (
+            "one worker",
+            &["typology", "A", "--workers", "1"],
+            typology(1, 1_024, None),
+        ),
+        (
+            "64 workers",
+            &["typology", "A", "--workers", "64"],
+            typology(64, 1_024, None),
+        ),
+        (
+            "no places",
+            &["typology", "A", "--store", "0"],
+            typology(1, 0, None),
+        ),
+        (
+            "4,096 places",
+            &["typology", "A", "--store=4096"],
+            typology(1, 4_096, None),
+        ),
+        (
+            "schedule 0",
+            &["typology", "A", "--schedule", "0"],
+            typology(1, 1_024, Some(0)),
+        ),
+        (
+            "the last schedule",
+            &["typology", "A", "--schedule", "18446744073709551615"],
+            typology(1, 1_024, Some(u64::MAX)),
+        ),
+        (
+            "20 digits",
+            &["typology", "A", "--workers", "00000000000000000003"],
+            typology(3, 1_024, None),
+        ),
+        (
+            "options before the command",
+            &["--store", "7", "--workers=2", "typology", "A"],
+            typology(2, 7, None),
+        ),
+        (
+            "options round the words",
+            &[
+                "--store",
+                "7",
+                "typology",
+                "--schedule=9",
+                "A",
+                "--workers",
+                "2",
+            ],
+            typology(2, 7, Some(9)),
+        ),
+        (
+            "options before the dashes",
+            &["typology", "--workers", "2", "--", "A"],
+            typology(2, 1_024, None),
+        ),
+        ("a ranking behind dashes", &["rank", "--", "A"], rank),
+        (
+            "a command behind dashes",
+            &["--workers=2", "--", "typology", "A"],
+            typology(2, 1_024, None),
+        ),
+    ];
+    for (name, words, asked) in &rows {
+        let words = owned(rt.alloc(), words)?;
+        let answer = settings_of(rt.alloc(), words.as_slice());
+        assert!(rt; is_asked(&answer, asked), "{name}");
+    }
+    Ok(())
+}
+
+#[test]
+fn words_give_no_settings(rt: HostRuntime) -> Result<(), Fail> {
+    let rows: [(&str, &[&str]); 37] = [
+        ("no word", &[]),
+        ("a command alone", &["typology"]),
+        ("a ranking alone", &["rank"]),
+        ("two files", &["typology", "A", "B"]),
+        ("an unknown command", &["frob", "A"]),
+        ("a shortened command", &["typolog", "A"]),
+        ("a dashed command", &["-v", "typology", "A"]),
+        ("a dashed file", &["typology", "-a"]),
+        ("no file behind dashes", &["typology", "--"]),
+        ("a second file behind dashes", &["typology", "A", "--", "B"]),
+        (
+            "an option behind dashes",
+            &["typology", "--", "A", "--workers=2"],
+        ),
+        (
+            "dashes twice before the command",
+            &["--", "--", "typology", "A"],
+        ),
+        ("an unknown option", &["typology", "A", "--work", "1"]),
+        (
+            "an option in capitals",
+            &["typology", "A", "--Workers", "1"],
+        ),
+        ("an option without a name", &["typology", "A", "--=x"]),
+        (
+            "an option of no command",
+            &["typology", "A", "--faith", "1"],
+        ),
+        (
+            "an option of another command",
+            &["rank", "A", "--workers", "1"],
+        ),
+        ("no workers", &["typology", "A", "--workers", "0"]),
+        ("65 workers", &["typology", "A", "--workers", "65"]),
+        (
+            "21 digits",
+            &["typology", "A", "--workers", "000000000000000000001"],
+        ),
+        ("4,097 places", &["typology", "A", "--store", "4097"]),
+        (
+            "a schedule past 64 bits",
+            &["typology", "A", "--schedule", "18446744073709551616"],
+        ),
+        (
+            "a schedule of 20 nines",
+            &["typology", "A", "--schedule", "99999999999999999999"],
+        ),
+        ("no value", &["typology", "A", "--workers"]),
+        ("an empty value", &["typology", "A", "--workers="]),
+        (
+            "an empty word as value",
+            &["typology", "A", "--workers", ""],
+        ),
+        ("a dash as value", &["typology", "A", "--store", "-"]),
+        ("a dashed value", &["typology", "A", "--store", "-1"]),
+        ("dashes as value", &["typology", "A", "--store", "--", "3"]),
+        (
+            "an option as value",
+            &["typology", "A", "--store", "--workers=2"],
+        ),
+        ("a negative value", &["typology", "A", "--store=-1"]),
+        ("a plus", &["typology", "A", "--store", "+1"]),
+        ("a letter", &["typology", "A", "--store", "1k"]),
+        ("a blank", &["typology", "A", "--store", " 1"]),
+        ("an equals sign twice", &["typology", "A", "--store==1"]),
+        (
+            "an option twice",
+            &["typology", "A", "--store", "1", "--store", "2"],
+        ),
+        (
+            "the same value twice",
+            &["--store=1", "typology", "A", "--store", "1"],
+        ),
+    ];
+    for (name, words) in &rows {
+        let words = owned(rt.alloc(), words)?;
+        let answer = settings_of(rt.alloc(), words.as_slice());
+        assert!(rt; is_asked(&answer, &Asked::Bad), "{name}");
+    }
+    Ok(())
+}
 
 /// Files of which none opens, and which count the opens.
 #[derive(Drop)]
@@ -25,48 +261,17 @@ impl Files for Closed {
     }
 }
 
-/// What the words ask for, by itself: the command and its file.
-#[test]
-fn words_give_settings(rt: HostRuntime) -> Result<(), Fail> {
-    let alloc = rt.alloc();
-    let rows: [(&[&str], &str); 5] = [
-        (&["typology", "a"], "typology a"),
-        (&["rank", "--", "-a"], "rank -a"),
-        (&["--", "rank", ""], "rank "),
-        (&["rank"], "Bad"),
-        (&["frob", "a"], "Bad"),
-    ];
-    for (words, want) in &rows {
-        let owned = owned(alloc, words)?;
-        let given = match settings_of(alloc, owned.as_slice()) {
-            Ok(Settings::Typology { file }) => format!(in alloc; "typology {}", file.as_str())?,
-            Ok(Settings::Rank { file }) => format!(in alloc; "rank {}", file.as_str())?,
-            Err(error) => format!(in alloc; "{error:?}")?,
-        };
-        assert_eq!(rt; given.as_str(), *want, "{words:?}");
-    }
-    Ok(())
-}
-
 #[test]
 fn bad_words_open_no_file(rt: HostRuntime) -> Result<(), Fail> {
     let alloc = rt.alloc();
-    let rows: [&[&str]; 15] = [
-        &[],
+    let rows: [&[&str]; 7] = [
         &["typology"],
-        &["rank"],
-        &["rank", "a", "--workers", "1"],
-        &["typology", "a", "b"],
-        &["frob", "a"],
-        &["typolog", "a"],
-        &["typology", "a", "--workers", "0"],
-        &["typology", "a", "--workers=02"],
-        &["typology", "a", "--faith", "1"],
-        &["typology", "a", "--store", "1", "--store", "2"],
-        &["typology", "-a"],
-        &["-v", "typology", "a"],
-        &["typology", "--"],
-        &["typology", "a", "--", "b"],
+        &["typology", "A", "B"],
+        &["frob", "A"],
+        &["typology", "A", "--workers", "0"],
+        &["typology", "A", "--workers", "65"],
+        &["typology", "A", "--faith", "1"],
+        &["typology", "A", "--store", "1", "--store", "2"],
     ];
     for words in &rows {
         let mut files = Closed { opens: 0 };
@@ -86,20 +291,23 @@ fn bad_words_open_no_file(rt: HostRuntime) -> Result<(), Fail> {
 }
 
 #[test]
-fn words_name_their_file(rt: HostRuntime) -> Result<(), Fail> {
-    let rows: [(&[&str], &str); 7] = [
-        (&["typology", "a"], "a"),
-        (&["--", "typology", "a"], "a"),
-        (&["rank", "--", "-a"], "-a"),
-        (&["typology", "--", "-a"], "-a"),
-        (&["typology", "-"], "-"),
-        (&["typology", "--", "--"], "--"),
-        (&["typology", ""], ""),
+fn options_change_no_report(rt: HostRuntime) -> Result<(), Fail> {
+    let rows: [&[&str]; 6] = [
+        &["typology", "A", "--workers=02"],
+        &["typology", "A", "--workers", "64"],
+        &["typology", "A", "--store", "0"],
+        &["--store=1", "typology", "A"],
+        &["typology", "--store", "4096", "A"],
+        &["typology", "--workers", "3", "--schedule", "9", "--", "A"],
     ];
-    for (words, name) in &rows {
-        let file = b"\t\t\tA\n\t\t\tA\nx\tp\t1\t0\n";
-        let left = run_on(rt.alloc(), words, &Outside::sound(name, file))?;
+    for words in &rows {
+        let left = run_on(
+            rt.alloc(),
+            words,
+            &Outside::sound("A", CODA.file.as_bytes()),
+        )?;
         assert_eq!(rt; left.status, Status::Done, "{words:?}");
+        assert!(rt; left.out.written() == CODA.report.as_bytes(), "{words:?}");
     }
     Ok(())
 }

@@ -1,9 +1,11 @@
 //! The report of a command.
 
-ghost use Rattle.std.specs.Prelude.{◌≡◌, IfOk, IsTrue};
+ghost use Rattle.std.specs.Prelude.{◌≡◌, ◌≤◌, IfOk, IsTrue};
 ghost use Rattle.ot_base.specs.Acceptable.{IsAcceptable};
 ghost use Rattle.ot_base.specs.Tableaus.{problem_of};
 ghost use Rattle.ot_theory.specs.Refutations.{is_contradicted};
+ghost use Rattle.typology_core.specs.declared.search.TheConstants.{PLACE_LIMIT};
+ghost use Rattle.otsoft_run.specs.Words.{IsWithinLimits};
 ghost use Rattle.otsoft_run.specs.Answers.{IsReport, IsTypologyReport, IsRankReport, is_written, status_by, written_status};
 
 use crate::judging::Posed;
@@ -16,9 +18,6 @@ use refutation::{conditions_of, core_of, winner_terms};
 use report_text::{contradiction_text, rank_text, typology_text};
 use std::alloc::Global;
 use typology_core::search_alone;
-
-/// How many contradictions a search keeps to consult them.
-const PLACES: usize = 1_024;
 
 /// A report, and the status of a run that wrote it whole.
 #[derive(Debug, Drop)]
@@ -35,25 +34,27 @@ pub(crate) fn report_of(
 ) -> Result<Report, NoMemory>
     requires poses { posed.now.problem ≡ problem_of posed.now.tableau }
     requires acceptable { IsAcceptable posed.now.tableau }
+    requires within { IsWithinLimits settings.now }
     ensures report { IfOk result (λ report. IsReport settings.now posed.now report.text) }
     ensures status { IfOk result (λ report. report.status ≡ written_status settings.now posed.now) }
     ensures written { IfOk result (λ report. IsTrue (is_written report.status)) }
 {
     match settings {
-        Settings::Typology { .. } => Ok(Report {
-            text: typology_report(alloc, posed)?,
+        Settings::Typology { places, .. } => Ok(Report {
+            text: typology_report(alloc, posed, *places)?,
             status: Status::Done,
         }),
         Settings::Rank { .. } => rank_report(alloc, posed),
     }
 }
 
-/// The report of the languages, cuts and certificates of a tableau.
-fn typology_report(alloc: Global, posed: &Posed) -> Result<Label, NoMemory>
+/// The report of the languages, cuts and certificates of a tableau, found with so many places for contradictions.
+fn typology_report(alloc: Global, posed: &Posed, places: usize) -> Result<Label, NoMemory>
+    requires few { places ≤ PLACE_LIMIT }
     requires poses { posed.now.problem ≡ problem_of posed.now.tableau }
     ensures { IfOk result (λ report. IsTypologyReport posed.now report) }
 {
-    let alone = search_alone(alloc, &posed.problem, PLACES)?;
+    let alone = search_alone(alloc, &posed.problem, places)?;
     typology_text(alloc, &posed.tableau, &posed.problem, &alone.typology)
 }
 
