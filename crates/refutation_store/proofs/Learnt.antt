@@ -1,6 +1,6 @@
 -- Lists of what is known.
 use Rattle.std.proofs.Common.{inl, inr, append_assoc, ◌≡◌, ℕ, zero, suc, ◌+◌, ◌-◌, ◌<◌, ◌≤◌, List, [], ◌∷◌, ◌++◌, length, map, set, take, get_or, replicate, sym, refl, ap, ◌∙◌, subst, arith, length-append, length-set, Option, Some, None, slice_get}
-use Rattle.std.proofs.lemmas.List.{map-set, map-append, length-map, length-replicate, take_more, take_all}
+use Rattle.std.proofs.lemmas.List.{map-set, map-append, length-map, take_more, take_all}
 use Rattle.std.proofs.lemmas.List.{get_or-map as get_or-map'}
 use Rattle.std.specs.declared.alloc.Global.{Global}
 use Rattle.once_cell.specs.Once.{cell_name, Agrees}
@@ -112,7 +112,7 @@ pub pushed : (xs : List C) (x y : C) (k : ℕ) → slice_get (xs ++ x ∷ []) k 
 pushed [] x y zero e = inr (refl, (cc))
 pushed [] x y (suc k) e = absurd (cc)
 pushed (z ∷ xs) x y zero e = inl e
-pushed (z ∷ xs) x y (suc k) e = elim (pushed xs x y k e) [ | inl h ↦ inl h | inr h ↦ inr (omega (arith, h.0), h.1) ]
+pushed (z ∷ xs) x y (suc k) e = elim (pushed xs x y k e) [ inl h ↦ inl h | inr h ↦ inr (omega (arith, h.0), h.1) ]
 
 pub at_end : (xs : List C) (x : C) → slice_get (xs ++ x ∷ []) (length xs) ≡ Some x
 at_end [] x = refl
@@ -125,10 +125,10 @@ pub learns_more : (f g h : FrontView) (x : C) → Learns f g → Grows g x h →
 learns_more f g h x l e = record {
   more = l.more ++ x ∷ [];
   after = λ i. record {
-      store = (ap (λ (v : FrontView). v.store) e ∙ ap (λ (v : FrontView). v.store) l.after) i;
-      values = (ap (λ (v : FrontView). v.values) e ∙ (ap (λ (v : FrontView). v.values ++ x ∷ []) l.after ∙ append_assoc f.values l.more (x ∷ []))) i;
-      misses = (ap (λ (v : FrontView). v.misses) e ∙ ap (λ (v : FrontView). v.misses) l.after) i;
-    };
+    store = (ap (λ (v : FrontView). v.store) e ∙ ap (λ (v : FrontView). v.store) l.after) i;
+    values = (ap (λ (v : FrontView). v.values) e ∙ (ap (λ (v : FrontView). v.values ++ x ∷ []) l.after ∙ append_assoc f.values l.more (x ∷ []))) i;
+    misses = (ap (λ (v : FrontView). v.misses) e ∙ ap (λ (v : FrontView). v.misses) l.after) i;
+  };
 }
 
 pub learns_none : (f : FrontView) → Learns f f
@@ -139,7 +139,7 @@ learns_none f = record {
 
 pub not_met : (start : ℕ) (g h : FrontView) (x c : C) → NotMet c start g.values → (x ≡ c → ⊥) → Grows g x h → NotMet c start h.values
 not_met start g h x c none other e k from is =
-    elim (pushed g.values x c k (subst (λ (v : FrontView). slice_get v.values k ≡ Some c) e is)) [ | inl i ↦ none k from i | inr i ↦ other i.1 ]
+    elim (pushed g.values x c k (subst (λ (v : FrontView). slice_get v.values k ≡ Some c) e is)) [ inl i ↦ none k from i | inr i ↦ other i.1 ]
 
 -- what the front held stands below what it holds now
 pub no_shorter : (f g : FrontView) → Learns f g → length f.values ≤ length g.values
@@ -154,7 +154,7 @@ shows_last places f g h x c n l none e same at =
     let old = no_shorter f g l in
     let i : n - 1 ≡ length g.values = omega arith in
     let only : (k : ℕ) → length f.values ≤ k → slice_get h.values k ≡ Some c → k ≡ n - 1 =
-    λ k from is. elim (pushed g.values x c k (subst (λ (v : FrontView). slice_get v.values k ≡ Some c) e is)) [ | inl m ↦ absurd (none k from m) | inr m ↦ m.0 ∙ sym i ] in
+    λ k from is. elim (pushed g.values x c k (subst (λ (v : FrontView). slice_get v.values k ≡ Some c) e is)) [ inl m ↦ absurd (none k from m) | inr m ↦ m.0 ∙ sym i ] in
     (omega arith, omega arith, ap (λ (v : FrontView). slice_get v.values (n - 1)) e ∙ (ap (slice_get (g.values ++ x ∷ [])) i ∙ (at_end g.values x ∙ ap Some same)), only)
 
 -- a front holds no more than its store has places
@@ -215,7 +215,7 @@ unsome x y e = cc
 
 pub agree_more : (xs ys : List C) (n : ℕ) → AgreeBelow n xs ys → slice_get xs n ≡ slice_get ys n → AgreeBelow (n + 1) xs ys
 agree_more xs ys n below at k x y lt e f =
-    elim (eq-or-lt_of_le {n = k} {m = n} (omega arith)) [ | inr l ↦ below k x y l e f | inl s ↦ unsome x y (sym e ∙ (ap (slice_get xs) s ∙ (at ∙ (ap (slice_get ys) (sym s) ∙ f)))) ]
+    elim (eq-or-lt_of_le {n = k} {m = n} (omega arith)) [ inr l ↦ below k x y l e f | inl s ↦ unsome x y (sym e ∙ (ap (slice_get xs) s ∙ (at ∙ (ap (slice_get ys) (sym s) ∙ f)))) ]
 
 pub agree_all : (xs ys : List C) (n m : ℕ) → AgreeBelow n xs ys → m ≡ min (length xs) (length ys) → m ≤ n → AgreeOn xs ys
 agree_all xs ys n m below e le k x y f g =

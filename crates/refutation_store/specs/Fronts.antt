@@ -1,5 +1,5 @@
 -- What contracts see of a store and of its fronts.
-use Rattle.std.specs.Prelude.{◌≡◌, ◌≢◌, ◌⊎◌, ℕ, ◌+◌, ◌-◌, ◌<◌, ◌≤◌, ◌^◌, List, [], ◌∷◌, ◌++◌, length, map, min, replicate, Option, Some, None, slice_get}
+use Rattle.std.specs.Prelude.{◌≡◌, ◌≢◌, ◌⊎◌, ℕ, ◌+◌, ◌-◌, ◌≤◌, ◌^◌, List, [], ◌∷◌, ◌++◌, length, map, min, replicate, Option, Some, None, slice_get}
 use Rattle.refutation_store.specs.declared.store.Kept.{Kept}
 use Rattle.refutation_store.specs.declared.store.Kept.TheVariants.{At, Full}
 use Rattle.note_sign.specs.declared.Sign.{Sign}

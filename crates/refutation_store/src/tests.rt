@@ -47,8 +47,11 @@ fn a_full_store_shows_what_was_kept_first(rt: HostRuntime) -> Result<(), NoMemor
 }
 
 const THREADS: usize = 8;
+
 const KEPT: usize = 125;
+
 const DIFFERENT: usize = 100;
+
 const PLACES: usize = 64;
 
 /// Keeps 125 contradictions, of which the last 25 are those of the beginning again.

@@ -1,4 +1,4 @@
-use Rattle.std.proofs.Common.{◌≡◌, ◌∙◌, length, ap, subst}
+use Rattle.std.proofs.Common.{◌≡◌, ◌∙◌, length}
 use Rattle.std.specs.Prelude.{min}
 use Rattle.refutation_store.proofs.Learnt.{agree_more, agree_all}
 use Rattle.refutation_store.proofs.laws.agree.Goals as goal

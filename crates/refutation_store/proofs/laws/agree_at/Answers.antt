@@ -1,8 +1,7 @@
-use Rattle.std.proofs.Common.{◌≡◌, ◌<◌, ℕ, length, map, get_or, sym, ap, ◌∙◌, List, Some, slice_get, refl}
-use Rattle.once_cell.specs.Once.{cell_name}
+use Rattle.std.proofs.Common.{sym, ap, ◌∙◌, slice_get, refl}
 use Rattle.note_sign.specs.declared.Sign.{Sign}
 use Rattle.refutation.specs.declared.contradiction.Contradiction.{Contradiction}
-use Rattle.refutation_store.specs.Fronts.{FrontView, cells_of, IsFront, known_of, knowns}
+use Rattle.refutation_store.specs.Fronts.{FrontView}
 use Rattle.refutation_store.proofs.Learnt.{cell_same, seen_value, is_there, both_known, within_cells}
 use Rattle.refutation_store.proofs.laws.agree_at.Goals as goal
 

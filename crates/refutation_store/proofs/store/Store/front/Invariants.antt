@@ -1,4 +1,4 @@
-use Rattle.std.proofs.Common.{◌≡◌, length, take, map}
+use Rattle.std.proofs.Common.{take, map}
 use Rattle.once_cell.specs.Once.{cell_name}
 use Rattle.refutation_store.proofs.Learnt.{AreBlank}
 use Rattle.refutation_store.proofs.store.Store.front.Given as goal

@@ -1,4 +1,4 @@
-use Rattle.std.proofs.Common.{◌≡◌, ◌∷◌, [], ◌+◌, ◌-◌, ◌++◌, ℕ, length, sym, ap, ◌∙◌, subst, arith, List, refl, Some, slice_get, length-append, true, false}
+use Rattle.std.proofs.Common.{length}
 use Rattle.refutation_store.proofs.Learnt.{learns_none, learns_more, not_met, never_past, shows_last}
 use Rattle.refutation_store.proofs.store.Store.keep.Goals as goal
 
@@ -14,6 +14,7 @@ returns-then-branch-clause-kept c =
 pub loop-self-preserved : goal.loop-self-preserved
 loop-self-preserved c =
     let o = rw c.in_ok-offer.was at c.offer.ensures.ok in
-    let h = c.loop-self.invariant in
-    (learns_more c.args.f.now c.loop-self.f c.offer.new.f o.0 h.0 o.1,
-     not_met _ c.loop-self.f c.offer.new.f o.0 c.args.c.now h.1 (λ e. let t = rw c.if-branch.false at (o.2.1 e) in (cc)) o.1)
+    let h = c.loop-self.invariant in (
+      learns_more c.args.f.now c.loop-self.f c.offer.new.f o.0 h.0 o.1,
+      not_met _ c.loop-self.f c.offer.new.f o.0 c.args.c.now h.1 (λ e. let t = rw c.if-branch.false at (o.2.1 e) in (cc)) o.1,
+    )

@@ -1,4 +1,4 @@
-use Rattle.std.proofs.Common.{◌≡◌, ℕ, ◌-◌, length}
+use Rattle.std.proofs.Common.{◌-◌, length}
 use Rattle.refutation_store.specs.Fronts.{Learns, NotMet}
 use Rattle.refutation_store.proofs.store.Store.keep.Given as goal
 

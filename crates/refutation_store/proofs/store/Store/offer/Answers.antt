@@ -1,9 +1,9 @@
-use Rattle.std.proofs.Common.{◌≡◌, ◌<◌, ◌∷◌, [], ◌++◌, ℕ, length, map, set, get_or, sym, ap, ◌∙◌, arith, List, refl, Some}
+use Rattle.std.proofs.Common.{◌≡◌, ◌<◌, ◌∷◌, [], ◌++◌, ℕ, length, map, set, get_or, sym, ap, ◌∙◌, arith, List, Some}
 use Rattle.std.proofs.lemmas.List.{length-map}
 use Rattle.once_cell.specs.Once.{cell_name}
 use Rattle.note_sign.specs.declared.Sign.{Sign}
 use Rattle.refutation.specs.declared.contradiction.Contradiction.{Contradiction}
-use Rattle.refutation_store.specs.Fronts.{FrontView, cells_of, IsFront, known_of, knowns}
+use Rattle.refutation_store.specs.Fronts.{FrontView, cells_of, known_of, knowns}
 use Rattle.refutation_store.proofs.Learnt.{learns, learns_values, same_cells, cell_same, signs_within}
 use Rattle.refutation_store.proofs.store.Store.offer.Goals as goal
 

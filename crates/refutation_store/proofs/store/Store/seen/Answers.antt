@@ -1,9 +1,9 @@
-use Rattle.std.proofs.Common.{◌≡◌, ◌<◌, ◌≤◌, ℕ, length, map, get_or, sym, ap, ◌∙◌, arith, List, Some, None, slice_get, subst}
+use Rattle.std.proofs.Common.{◌≡◌, ◌<◌, ℕ, length, map, sym, ap, ◌∙◌, arith, slice_get}
 use Rattle.std.proofs.lemmas.List.{length-map}
 use Rattle.once_cell.specs.Once.{cell_name}
 use Rattle.note_sign.specs.declared.Sign.{Sign}
 use Rattle.refutation.specs.declared.contradiction.Contradiction.{Contradiction}
-use Rattle.refutation_store.specs.Fronts.{FrontView, cells_of, IsFront, known_of, knowns}
+use Rattle.refutation_store.specs.Fronts.{FrontView, cells_of}
 use Rattle.refutation_store.proofs.Learnt.{cell_same, signs_within, seen_value, is_there, agreed}
 use Rattle.refutation_store.proofs.store.Store.seen.Goals as goal
 
