@@ -1,6 +1,6 @@
 -- Seats whose number and make stayed the same are still all seats of one make.
-use Rattle.std.proofs.Common.{◌≡◌, ℕ, zero, suc, ◌+◌, ◌<◌, List, [], ◌∷◌, ◌++◌, length, map, get_or, sym, refl, ap, ◌∙◌, append_assoc, subst, arith, length-append}
-use Rattle.std.proofs.lemmas.List.{append-nil}
+use Rattle.std.proofs.Common.{◌≡◌, ℕ, zero, suc, ◌+◌, ◌<◌, List, [], ◌∷◌, ◌++◌, length, map, take, drop, get_or, sym, refl, ap, ◌∙◌, append_assoc, subst, arith, length-append}
+use Rattle.std.proofs.lemmas.List.{append-nil, drop_all, take_all}
 use Rattle.std.specs.Prelude.{eqb, if◌then◌else◌}
 use Rattle.std.proofs.lemmas.Bool.Decides.{nat_tests}
 use Rattle.prefix_deques.specs.Lanes.{DequeId, SeatView}
@@ -85,3 +85,9 @@ out_one f all seats rest xs longer x h e l = h ∙ (ap (λ y. y ++ map f xs) e �
 
 pub out_all : {X : Type 0} (f : X → SeatView) (all seats : List SeatView) (xs : List X) → all ≡ seats ++ map f xs → seats ≡ [] → IsMake all → IsMake (map f xs)
 out_all f all seats xs h e m = subst (λ (l : List SeatView). IsMake l) (h ∙ ap (λ y. y ++ map f xs) e) m
+
+-- what was written to a whole vector through a slice
+pub written : {X : Type 0} (n : ℕ) (ys xs : List X) → length ys ≡ length xs → n ≡ length xs → take n (ys ++ drop (length ys) xs) ≡ ys
+written n ys xs e m =
+    let none : drop (length ys) xs ≡ [] = drop_all (length ys) xs (omega arith) in
+    ap (λ l. take n (ys ++ l)) none ∙ (ap (take n) (append-nil ys) ∙ take_all n ys (omega arith))

@@ -11,6 +11,7 @@ use std::thread;
 use std::thread::Threads;
 
 /// What is done to two seats: the first puts a prefix of one class, takes, or the second steals from it, and what that gives.
+#[derive(Clone, Copy)]
 enum Step {
     Put(u16),
     Take(Option<u16>),
@@ -149,7 +150,9 @@ struct Hand {
 /// The number of a prefix of the seats' test.
 fn number_of(prefix: &Prefix) -> usize {
     match prefix.as_slice() {
-        [seat, put] => usize::from(seat.0) * PUTS + usize::from(put.0),
+        [seat, put] => usize::from(seat.0)
+            .saturating_mul(PUTS)
+            .saturating_add(usize::from(put.0)),
         _ => SEATS * PUTS,
     }
 }
@@ -159,7 +162,7 @@ fn turn(alloc: Global, hand: &mut Hand, put: usize) -> Result<(), NoMemory>
     ensures { IsSame hand.old.seat hand.new.seat }
 {
     let number = hand.seat.number();
-    let next = (number + 1) % hand.seat.deques();
+    let next = number.wrapping_add(1) % hand.seat.deques();
     let p = Prefix::of(alloc, &[ClassId(number as u16), ClassId((put % PUTS) as u16)])?;
     if let Put::Back(p) = hand.seat.put(p) {
         hand.got.push(number_of(&p))?;
@@ -198,7 +201,8 @@ fn hands(alloc: Global) -> Result<Vec<Hand>, NoMemory>
 }
 
 fn all_turns<R: Threads + Sync>(rt: &R, alloc: Global, hands: &mut [Hand])
-    ensures { (k : ℕ) (d : _) → k < length hands.old → IsSame (slice_index_or hands.old k d).seat (slice_index_or hands.new k d).seat }
+    ensures many { length hands.new ≡ length hands.old }
+    ensures same { (k : ℕ) (d : _) → k < length hands.old → IsSame (slice_index_or hands.old k d).seat (slice_index_or hands.new k d).seat }
 {
     thread::for_each_mut(rt, hands, SEATS, &|_, hand| turns(alloc, hand));
 }
