@@ -1,0 +1,10 @@
+pub mod Books
+pub mod Lanes
+pub mod Stolen
+pub mod Seats
+pub mod Passes
+pub mod Closed
+pub mod Booked
+pub mod Dealing
+pub mod Made
+pub mod Stays
