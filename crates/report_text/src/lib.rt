@@ -11,6 +11,12 @@ mod contradiction;
 mod head;
 mod hierarchy;
 mod rank;
+mod reading;
+mod reading_blocks;
+mod reading_fields;
+mod reading_lines;
+mod reading_misread;
+mod reading_pieces;
 mod tableaux;
 mod terms;
 #[cfg(test)]
@@ -21,4 +27,5 @@ mod winners;
 
 pub use contradiction::contradiction_text;
 pub use rank::rank_text;
+pub use reading::{REPORT_LIMIT, TextError, read_typology_text};
 pub use typology::typology_text;
