@@ -7,3 +7,4 @@ pub mod Blocks
 pub mod Words
 pub mod Pieces
 pub mod Ranked
+pub mod Read

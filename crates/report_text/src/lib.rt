@@ -5,6 +5,9 @@
 //! and their fusion (Prince 2002); or which class of each input wins (a candidate with its count, as an OTSoft file has it), and
 //! the strata of a hierarchy with a tableau of each input whose rows mark the fatal violation of each loser, as tableaux are
 //! drawn since Prince and Smolensky (1993). The lines, their fields and their order are this project's own.
+//!
+//! The report of a typology is also read, by a grammar whose lines are judged from the first one on: `specs/Fields.antt` says
+//! what fields spell, `specs/Shapes.antt` what a line has, and `specs/Grammar.antt` which line may stand where.
 #![tactic(auto)]
 
 mod contradiction;
