@@ -1,5 +1,5 @@
 -- What the fields of a report spell: numbers, classes by input, hierarchies, marks and terms.
-use Rattle.std.specs.Prelude.{ℕ, ◌+◌, ◌-◌, ◌*◌, Bool, true, false, not, ◌&&◌, ◌||◌, ◌==◌, List, [], ◌∷◌, length, replicate, fold, nat_le, nat_lt, slice_index, slice_set, bytes_eq, codes, Option, Some, None, if◌then◌else◌}
+use Rattle.std.specs.Prelude.{ℕ, ◌+◌, ◌-◌, ◌*◌, Bool, not, ◌&&◌, ◌||◌, ◌==◌, List, [], ◌∷◌, length, replicate, fold, nat_le, nat_lt, slice_index, slice_set, bytes_eq, codes, Option, Some, None, if◌then◌else◌}
 use Rattle.std.specs.List.{list_all, slice_split}
 use Rattle.report_text.specs.declared.reading_fields.TheConstants.{NUMBER_LIMIT}
 use Rattle.ot_theory.specs.Languages.{Term}
