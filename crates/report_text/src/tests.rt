@@ -1,7 +1,7 @@
 ghost use Rattle.std.specs.Prelude.{◌≡◌, ◌<◌, length, IfOk, All};
 ghost use Rattle.ot_base.specs.Acceptable.{IsRow, AreRows, IsAcceptable};
 
-use crate::{contradiction_text, rank_text, typology_text};
+use crate::{TextError, contradiction_text, rank_text, read_typology_text, typology_text};
 use erc_vectors::{List, NoMemory, Strata};
 use ot_base::{CandidateRow, ClassId, InId, InputRows, Label, Tableau};
 use refutation::{Contradiction, Cut, Language, Prefix, Term, Typology, is_genuine};
@@ -212,4 +212,120 @@ fn a_certificate_that_two_cuts_name(rt: HostRuntime) -> Result<(), Fail> {
     let report = typology_text(alloc, &tableau, &problem, &typology)?;
     assert!(rt; report.bytes() == SHARED_REPORT.as_bytes());
     Ok(())
+}
+
+/// Reports of two constraints and one input, with the first line that does not fit, and 0 where all do.
+#[test]
+fn reports_that_fit_and_that_do_not(rt: HostRuntime) {
+    let table = [
+        (
+            "whole",
+            "otsoft report 1\ttypology\nconstraints\t2\nconstraint\t1\tNC\tNoCoda\nconstraint\t2\tM\t\ninputs\t1\ninput\t1\tpat\t2\nclass\t1.1\t1 0\tpat\tpat\nclass\t1.2\t0 10\tpa\nlanguages\t2\nlanguage\t1\t1\t2 | 1\nlanguage\t2\t2\t1 | 2\ncertificates\t1\ncertificate\t1\tLL\t1:1>2 1:2>1\ncuts\t1\ncut\t1\t-\t1\nend\n",
+            0,
+        ),
+        ("empty", "", 1),
+        (
+            "no last LF",
+            "otsoft report 1\ttypology\nconstraints\t2\nconstraint\t1\tNC\tNoCoda\nconstraint\t2\tM\t\ninputs\t1\ninput\t1\tpat\t2\nclass\t1.1\t1 0\tpat\tpat\nclass\t1.2\t0 10\tpa\nlanguages\t2\nlanguage\t1\t1\t2 | 1\nlanguage\t2\t2\t1 | 2\ncertificates\t1\ncertificate\t1\tLL\t1:1>2 1:2>1\ncuts\t1\ncut\t1\t-\t1\nend",
+            16,
+        ),
+        (
+            "end missing",
+            "otsoft report 1\ttypology\nconstraints\t2\nconstraint\t1\tNC\tNoCoda\nconstraint\t2\tM\t\ninputs\t1\ninput\t1\tpat\t2\nclass\t1.1\t1 0\tpat\tpat\nclass\t1.2\t0 10\tpa\nlanguages\t2\nlanguage\t1\t1\t2 | 1\nlanguage\t2\t2\t1 | 2\ncertificates\t1\ncertificate\t1\tLL\t1:1>2 1:2>1\ncuts\t1\ncut\t1\t-\t1\n",
+            16,
+        ),
+        (
+            "behind the end",
+            "otsoft report 1\ttypology\nconstraints\t2\nconstraint\t1\tNC\tNoCoda\nconstraint\t2\tM\t\ninputs\t1\ninput\t1\tpat\t2\nclass\t1.1\t1 0\tpat\tpat\nclass\t1.2\t0 10\tpa\nlanguages\t2\nlanguage\t1\t1\t2 | 1\nlanguage\t2\t2\t1 | 2\ncertificates\t1\ncertificate\t1\tLL\t1:1>2 1:2>1\ncuts\t1\ncut\t1\t-\t1\nend\n\n",
+            17,
+        ),
+        (
+            "leading zero",
+            "otsoft report 1\ttypology\nconstraints\t02\nconstraint\t1\tNC\tNoCoda\nconstraint\t2\tM\t\ninputs\t1\ninput\t1\tpat\t2\nclass\t1.1\t1 0\tpat\tpat\nclass\t1.2\t0 10\tpa\nlanguages\t2\nlanguage\t1\t1\t2 | 1\nlanguage\t2\t2\t1 | 2\ncertificates\t1\ncertificate\t1\tLL\t1:1>2 1:2>1\ncuts\t1\ncut\t1\t-\t1\nend\n",
+            2,
+        ),
+        (
+            "count too great",
+            "otsoft report 1\ttypology\nconstraints\t2\nconstraint\t1\tNC\tNoCoda\nconstraint\t2\tM\t\ninputs\t1\ninput\t1\tpat\t2\nclass\t1.1\t1 0\tpat\tpat\nclass\t1.2\t0 10\tpa\nlanguages\t268435457\nlanguage\t1\t1\t2 | 1\nlanguage\t2\t2\t1 | 2\ncertificates\t1\ncertificate\t1\tLL\t1:1>2 1:2>1\ncuts\t1\ncut\t1\t-\t1\nend\n",
+            9,
+        ),
+        (
+            "count not met",
+            "otsoft report 1\ttypology\nconstraints\t2\nconstraint\t1\tNC\tNoCoda\nconstraint\t2\tM\t\ninputs\t1\ninput\t1\tpat\t2\nclass\t1.1\t1 0\tpat\tpat\nclass\t1.2\t0 10\tpa\nlanguages\t1\nlanguage\t1\t1\t2 | 1\nlanguage\t2\t2\t1 | 2\ncertificates\t1\ncertificate\t1\tLL\t1:1>2 1:2>1\ncuts\t1\ncut\t1\t-\t1\nend\n",
+            11,
+        ),
+        (
+            "more than a count",
+            "otsoft report 1\ttypology\nconstraints\t2\nconstraint\t1\tNC\tNoCoda\nconstraint\t2\tM\t\ninputs\t1\ninput\t1\tpat\t2\nclass\t1.1\t1 0\tpat\tpat\nclass\t1.2\t0 10\tpa\nlanguages\t3\nlanguage\t1\t1\t2 | 1\nlanguage\t2\t2\t1 | 2\ncertificates\t1\ncertificate\t1\tLL\t1:1>2 1:2>1\ncuts\t1\ncut\t1\t-\t1\nend\n",
+            12,
+        ),
+        (
+            "stratum descends",
+            "otsoft report 1\ttypology\nconstraints\t2\nconstraint\t1\tNC\tNoCoda\nconstraint\t2\tM\t\ninputs\t1\ninput\t1\tpat\t2\nclass\t1.1\t1 0\tpat\tpat\nclass\t1.2\t0 10\tpa\nlanguages\t2\nlanguage\t1\t1\t2 1\nlanguage\t2\t2\t1 | 2\ncertificates\t1\ncertificate\t1\tLL\t1:1>2 1:2>1\ncuts\t1\ncut\t1\t-\t1\nend\n",
+            10,
+        ),
+        (
+            "stratum empty",
+            "otsoft report 1\ttypology\nconstraints\t2\nconstraint\t1\tNC\tNoCoda\nconstraint\t2\tM\t\ninputs\t1\ninput\t1\tpat\t2\nclass\t1.1\t1 0\tpat\tpat\nclass\t1.2\t0 10\tpa\nlanguages\t2\nlanguage\t1\t1\t2 |  | 1\nlanguage\t2\t2\t1 | 2\ncertificates\t1\ncertificate\t1\tLL\t1:1>2 1:2>1\ncuts\t1\ncut\t1\t-\t1\nend\n",
+            10,
+        ),
+        (
+            "constraint twice",
+            "otsoft report 1\ttypology\nconstraints\t2\nconstraint\t1\tNC\tNoCoda\nconstraint\t2\tM\t\ninputs\t1\ninput\t1\tpat\t2\nclass\t1.1\t1 0\tpat\tpat\nclass\t1.2\t0 10\tpa\nlanguages\t2\nlanguage\t1\t1\t2 | 1 2\nlanguage\t2\t2\t1 | 2\ncertificates\t1\ncertificate\t1\tLL\t1:1>2 1:2>1\ncuts\t1\ncut\t1\t-\t1\nend\n",
+            10,
+        ),
+        (
+            "constraint left out",
+            "otsoft report 1\ttypology\nconstraints\t2\nconstraint\t1\tNC\tNoCoda\nconstraint\t2\tM\t\ninputs\t1\ninput\t1\tpat\t2\nclass\t1.1\t1 0\tpat\tpat\nclass\t1.2\t0 10\tpa\nlanguages\t2\nlanguage\t1\t1\t2\nlanguage\t2\t2\t1 | 2\ncertificates\t1\ncertificate\t1\tLL\t1:1>2 1:2>1\ncuts\t1\ncut\t1\t-\t1\nend\n",
+            10,
+        ),
+        (
+            "no term",
+            "otsoft report 1\ttypology\nconstraints\t2\nconstraint\t1\tNC\tNoCoda\nconstraint\t2\tM\t\ninputs\t1\ninput\t1\tpat\t2\nclass\t1.1\t1 0\tpat\tpat\nclass\t1.2\t0 10\tpa\nlanguages\t2\nlanguage\t1\t1\t2 | 1\nlanguage\t2\t2\t1 | 2\ncertificates\t1\ncertificate\t1\tLL\t\ncuts\t1\ncut\t1\t-\t1\nend\n",
+            13,
+        ),
+        (
+            "loser is winner",
+            "otsoft report 1\ttypology\nconstraints\t2\nconstraint\t1\tNC\tNoCoda\nconstraint\t2\tM\t\ninputs\t1\ninput\t1\tpat\t2\nclass\t1.1\t1 0\tpat\tpat\nclass\t1.2\t0 10\tpa\nlanguages\t2\nlanguage\t1\t1\t2 | 1\nlanguage\t2\t2\t1 | 2\ncertificates\t1\ncertificate\t1\tLL\t1:1>1\ncuts\t1\ncut\t1\t-\t1\nend\n",
+            13,
+        ),
+        (
+            "class out of range",
+            "otsoft report 1\ttypology\nconstraints\t2\nconstraint\t1\tNC\tNoCoda\nconstraint\t2\tM\t\ninputs\t1\ninput\t1\tpat\t2\nclass\t1.1\t1 0\tpat\tpat\nclass\t1.2\t0 10\tpa\nlanguages\t2\nlanguage\t1\t3\t2 | 1\nlanguage\t2\t2\t1 | 2\ncertificates\t1\ncertificate\t1\tLL\t1:1>2 1:2>1\ncuts\t1\ncut\t1\t-\t1\nend\n",
+            10,
+        ),
+        (
+            "no member",
+            "otsoft report 1\ttypology\nconstraints\t2\nconstraint\t1\tNC\tNoCoda\nconstraint\t2\tM\t\ninputs\t1\ninput\t1\tpat\t2\nclass\t1.1\t1 0\tpat\tpat\nclass\t1.2\t0 10\nlanguages\t2\nlanguage\t1\t1\t2 | 1\nlanguage\t2\t2\t1 | 2\ncertificates\t1\ncertificate\t1\tLL\t1:1>2 1:2>1\ncuts\t1\ncut\t1\t-\t1\nend\n",
+            8,
+        ),
+        (
+            "CR in a text",
+            "otsoft report 1\ttypology\nconstraints\t2\nconstraint\t1\tNC\tNoCoda\nconstraint\t2\tM\t\ninputs\t1\ninput\t1\tpat\t2\nclass\t1.1\t1 0\tpat\tpat\nclass\t1.2\t0 10\tpa\r\nlanguages\t2\nlanguage\t1\t1\t2 | 1\nlanguage\t2\t2\t1 | 2\ncertificates\t1\ncertificate\t1\tLL\t1:1>2 1:2>1\ncuts\t1\ncut\t1\t-\t1\nend\n",
+            8,
+        ),
+        (
+            "certificate out of range",
+            "otsoft report 1\ttypology\nconstraints\t2\nconstraint\t1\tNC\tNoCoda\nconstraint\t2\tM\t\ninputs\t1\ninput\t1\tpat\t2\nclass\t1.1\t1 0\tpat\tpat\nclass\t1.2\t0 10\tpa\nlanguages\t2\nlanguage\t1\t1\t2 | 1\nlanguage\t2\t2\t1 | 2\ncertificates\t1\ncertificate\t1\tLL\t1:1>2 1:2>1\ncuts\t1\ncut\t1\t-\t2\nend\n",
+            15,
+        ),
+        (
+            "too many marks",
+            "otsoft report 1\ttypology\nconstraints\t2\nconstraint\t1\tNC\tNoCoda\nconstraint\t2\tM\t\ninputs\t1\ninput\t1\tpat\t2\nclass\t1.1\t1 0\tpat\tpat\nclass\t1.2\t0 10\tpa\nlanguages\t2\nlanguage\t1\t1\t2 | 1\nlanguage\t2\t2\t1 | 2\ncertificates\t1\ncertificate\t1\tLLe\t1:1>2\ncuts\t1\ncut\t1\t-\t1\nend\n",
+            13,
+        ),
+    ];
+    for (name, report, line) in table {
+        let answer = match read_typology_text(rt.alloc(), report.as_bytes()) {
+            Ok(typology) => {
+                assert_eq!(rt; typology.languages.len(), 2, "of {name}");
+                assert_eq!(rt; typology.certificates.len(), 1, "of {name}");
+                assert_eq!(rt; typology.cuts.len(), 1, "of {name}");
+                0
+            }
+            Err(TextError::BadLine(number)) => number,
+            Err(TextError::NoMemory) => 1_000,
+        };
+        assert_eq!(rt; answer, line, "of {name}");
+    }
 }
