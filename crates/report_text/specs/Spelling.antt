@@ -1,5 +1,5 @@
 -- How reports spell what they print.
-use Rattle.std.specs.Prelude.{ℕ, ◌+◌, List, [], ◌∷◌, ◌++◌, map, decimal, codes, max, fold, Option, Some, None}
+use Rattle.std.specs.Prelude.{ℕ, ◌+◌, List, [], ◌∷◌, ◌++◌, map, decimal, codes, max, fold, flat_map, Option, Some, None}
 use Rattle.std.specs.List.{join_with_byte, join_by, range_with_len}
 use Rattle.ot_theory.specs.declared.Mark.{Mark}
 use Rattle.ot_theory.specs.declared.Mark.TheVariants.{W, L, E}
@@ -30,6 +30,10 @@ hierarchy levels = join_by (λ s. spaced (stratum levels s)) (codes " | ") (rang
 abbrev pub prefix : List ℕ → List ℕ
 prefix [] = codes "-"
 prefix (a ∷ classes) = spaced (map (λ b. b + 1) (a ∷ classes))
+
+-- class numbers, counted from 1, each behind a space
+abbrev pub behind_spaces : List ℕ → List ℕ
+behind_spaces classes = flat_map (λ a. 32 ∷ decimal (a + 1)) classes
 
 -- a class number, counted from 1, or the word for none
 abbrev pub winner : Option ℕ → List ℕ

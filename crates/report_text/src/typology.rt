@@ -1,11 +1,12 @@
 //! The report of a factorial typology: its languages, and what shows that the other choices are none.
 
-ghost use Rattle.std.specs.Prelude.{◌≡◌, ◌∷◌, ◌++◌, ◌<◌, length, All, IsTrue, IfOk, OnOk};
+ghost use Rattle.std.specs.Prelude.{◌≡◌, ◌∷◌, ◌++◌, ◌*◌, ◌<◌, ◌≤◌, length, take, All, IsTrue, IfOk, OnOk};
 ghost use Rattle.ot_base.specs.Tableaus.{problem_of};
 ghost use Rattle.refutation.specs.Prefixes.{class_numbers};
 ghost use Rattle.refutation.specs.Terms.{are_terms, terms_in};
 ghost use Rattle.refutation.specs.Typologies.{found_of, cuts_of, certificates_of};
-ghost use Rattle.report_text.specs.Spelling.{prefix};
+ghost use Rattle.report_text.specs.Spelling.{behind_spaces, prefix};
+ghost use Rattle.report_text.specs.declared.typology.TheConstants.{FEW};
 ghost use Rattle.report_text.specs.Reports as reports;
 
 use crate::head::put_head;
@@ -137,12 +138,48 @@ fn put_cut(text: &mut Text, number: usize, certificates: usize, cut: &Cut) -> Re
 fn put_prefix(text: &mut Text, classes: &[ClassId]) -> Result<(), NoMemory>
     ensures { OnOk result (text.new ≡ text.old ++ 9 ∷ prefix (class_numbers classes.now)) }
 {
-    if classes.is_empty() {
+    let Some((first, rest)) = classes.split_first() else {
         return text.field(b"-");
-    }
-    text.put(b"\t")?;
-    for (k, class) in classes.iter().enumerate() {
-        text.spaced_number(k == 0, class.0 as usize + 1)?;
+    };
+    text.number_field(first.0 as usize + 1)?;
+    let mut rest = rest;
+    while !rest.is_empty() {
+        let (few, more) = rest.split_at(rest.len().min(FEW));
+        put_few(text, few)?;
+        rest = more;
     }
     Ok(())
+}
+
+/// How many numbers are written at once.
+const FEW: usize = 32;
+
+/// The numbers of a few classes, each behind a space. A prefix of hundreds of inputs is mostly numbers of one digit, which are
+/// put together and written at once.
+fn put_few(text: &mut Text, few: &[ClassId]) -> Result<(), NoMemory>
+    requires { length few.now ≤ FEW }
+    ensures { OnOk result (text.new ≡ text.old ++ behind_spaces (class_numbers few.now)) }
+{
+    if few.iter().all(|class| class.0 < 9) {
+        let bytes = digits_behind_spaces(few);
+        return text.put(&bytes[..2 * few.len()]);
+    }
+    for class in few {
+        text.spaced_number(false, class.0 as usize + 1)?;
+    }
+    Ok(())
+}
+
+/// The numbers of a few classes, each of one digit behind a space.
+fn digits_behind_spaces(few: &[ClassId]) -> [u8; 2 * FEW]
+    requires few { length few.now ≤ FEW }
+    requires digits { All (λ class. class.0 < 9) few.now }
+    ensures { take (2 * length few.now) result ≡ behind_spaces (class_numbers few.now) }
+{
+    let mut bytes = [0; 2 * FEW];
+    for (k, class) in few.iter().enumerate() {
+        bytes[2 * k] = b' ';
+        bytes[2 * k + 1] = b'1' + class.0 as u8;
+    }
+    bytes
 }
