@@ -14,3 +14,10 @@ pub mod Choices
 pub mod Below
 pub mod Walking
 pub mod Whole
+pub mod Slots
+pub mod StepsKeep
+pub mod Machines
+pub mod Finished
+pub mod Leading
+pub mod Standing
+pub mod OneAfter

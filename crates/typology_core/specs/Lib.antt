@@ -6,3 +6,9 @@ pub mod Places
 pub mod Below
 pub mod Walked
 pub mod Made
+pub mod Machine
+pub mod Seen
+pub mod Kept
+pub mod MachineView
+pub mod Held
+pub mod Standing
