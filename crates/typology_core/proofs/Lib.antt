@@ -13,3 +13,10 @@ pub mod Sieving
 pub mod Below
 pub mod Walking
 pub mod Whole
+pub mod Slots
+pub mod StepsKeep
+pub mod Machines
+pub mod Finished
+pub mod Leading
+pub mod Standing
+pub mod OneAfter

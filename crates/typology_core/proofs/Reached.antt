@@ -134,7 +134,7 @@ children-one problem p q a = elim (cases_Bool (same p q)) [
           | inr other ↦ other.0
         ]
 
-children-all : (problem : Problem) (p : List ℕ) (a : ℕ) (opened : List (List ℕ))
+pub children-all : (problem : Problem) (p : List ℕ) (a : ℕ) (opened : List (List ℕ))
     → times (p ++ a ∷ []) (flat_map (children problem) opened) ≡ cond (nat_lt a (length (classes_at problem (length p)))) (times p opened) 0
 children-all problem p a [] = nothing (nat_lt a (length (classes_at problem (length p))))
 children-all problem p a (q ∷ opened) =

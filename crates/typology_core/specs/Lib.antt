@@ -6,3 +6,10 @@ pub mod Below
 pub mod Walked
 pub mod Made
 pub mod Sieved
+pub mod Machine
+pub mod Seen
+pub mod Kept
+pub mod MachineView
+pub mod Held
+pub mod Standing
+pub mod Findings

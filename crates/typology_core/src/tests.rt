@@ -17,10 +17,10 @@ use std::test::Fail;
 use violation_profiles::Problem;
 
 /// The violations of three constraints by the three candidates of each input.
-type Marks = [[[u8; 3]; 3]; 2];
+pub(crate) type Marks = [[[u8; 3]; 3]; 2];
 
 /// Two inputs, each of whose candidates violates another constraint.
-const CODAS: Marks = [
+pub(crate) const CODAS: Marks = [
     [[1, 0, 0], [0, 1, 0], [0, 0, 1]],
     [[1, 0, 0], [0, 1, 0], [0, 0, 1]],
 ];
@@ -69,7 +69,7 @@ fn names(alloc: Global) -> Result<List<Label>, NoMemory>
     Ok(names)
 }
 
-fn problem(alloc: Global, rows: &Marks) -> Result<Problem, NoMemory> {
+pub(crate) fn problem(alloc: Global, rows: &Marks) -> Result<Problem, NoMemory> {
     let mut inputs = List::new(alloc);
     inputs.push(input(alloc, &rows[0])?)?;
     inputs.push(input(alloc, &rows[1])?)?;
