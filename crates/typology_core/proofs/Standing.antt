@@ -32,6 +32,9 @@ below-range choice prefix s (suc n) =
     let rest = below-range choice prefix (s + 1) n in
     omega arith
 
+nothing-more : (n : ℕ) → n + 0 ≡ n
+nothing-more n = omega arith
+
 -- Below one of the children of a prefix stands each choice that stands below the prefix.
 below-children : (problem : Problem) (choice prefix : List ℕ) → IsChoice problem choice → length prefix < length problem.inputs → count_by (is_below choice) (children problem prefix) ≡ cond (is_below choice prefix) 1 0
 below-children problem choice prefix c short =
@@ -49,6 +52,7 @@ below-children problem choice prefix c short =
     ∙ one
     ∙ ap (λ b. cond b (times front (prefix ∷ [])) 0) few
     ∙ times-cons front prefix []
+    ∙ nothing-more (cond (same front prefix) 1 0)
 
 -- Each deed: what stands below an opened prefix stands below its children, and below a full choice stands this choice alone.
 below-deeds : (problem : Problem) (choice : List ℕ) (deeds : List Deed) → IsChoice problem choice → AreHonest problem deeds
@@ -71,9 +75,9 @@ below-deeds problem choice (deed ∷ deeds) c h =
         let b = below-children problem choice deed.prefix c t.1 in
         omega arith
     by (Language levels) t rest =
-        let full : is_below choice deed.prefix ≡ same choice deed.prefix = ap (λ (l : List ℕ). same l deed.prefix) (ap (λ k. take k choice) (t.1 ∙ sym c.1) ∙ take_all choice (length choice) (omega arith)) in
+        let full : is_below choice deed.prefix ≡ same choice deed.prefix = ap (λ (l : List ℕ). same l deed.prefix) (ap (λ k. take k choice) (t.1 ∙ sym c.1) ∙ take_all (length choice) choice (omega arith)) in
         let a = times-cons choice deed.prefix (map (λ (l : List ℕ × List ℕ). l.0) (languages_in deeds)) in
-        let b = ap (λ (x : Bool). cond x 1 0) full in
+        let b = ap {B = ℕ} (λ (x : Bool). cond x 1 0) full in
         omega (arith, rest, a, b)
     by (Cut terms) t rest =
         let a = sum_by-cons (λ (x : List ℕ). cond (is_below choice x) 1 0) deed.prefix (cuts_in deeds) in
