@@ -123,7 +123,7 @@ impl Store {
         ensures refused { OnErr result (NotMet c.now (length f.old.values) f.new.values) }
     {
         while f.len() < self.cells.len() {
-            let copy = c.copy(self.alloc)?;
+            let copy = c.copy()?;
             if self.offer(f, c, copy)? {
                 return Ok(Kept::At(f.len() - 1));
             }

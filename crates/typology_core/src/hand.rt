@@ -51,11 +51,7 @@ pub(crate) fn picked(prefix: Prefix) -> Hand
 }
 
 /// Passes the next entry of the store. If it refutes the prefix, it becomes its mark.
-pub(crate) fn pass(
-    alloc: Global,
-    hand: &mut Option<Hand>,
-    store: &[Contradiction],
-) -> Result<(), NoMemory>
+pub(crate) fn pass(hand: &mut Option<Hand>, store: &[Contradiction]) -> Result<(), NoMemory>
     requires { IfSome hand.old (λ held. held.cursor < length store.now) }
     ensures seen { OnOk result (option_map hand_seen hand.new ≡ option_map (λ held. passing (slice_index_or (certificates_of store.now) held.cursor []) held) (option_map hand_seen hand.old)) }
     ensures least { OnOk result ((problem : problems.Problem) → HasLeast problem hand.old → HasLeast problem hand.new) }
@@ -66,7 +62,7 @@ pub(crate) fn pass(
     };
     let entry = &store[held.cursor];
     if refutes(entry, held.prefix.as_slice()) {
-        held.mark = Mark::Refuted(entry.copy(alloc)?);
+        held.mark = Mark::Refuted(entry.copy()?);
     }
     held.cursor += 1;
     Ok(())
@@ -95,7 +91,7 @@ pub(crate) fn learn(
         Finding::Holds(strata) => held.mark = Mark::Open(strata),
         Finding::Refuted(found) => {
             if store.len() < places {
-                store.push(found.copy(alloc)?)?;
+                store.push(found.copy()?)?;
             }
             held.mark = Mark::Refuted(found);
         }
@@ -104,14 +100,14 @@ pub(crate) fn learn(
 }
 
 /// What becomes of a prefix whose mark is known.
-fn fate_of(alloc: Global, p: &Problem, held: &Hand) -> Result<Fate, NoMemory>
+fn fate_of(p: &Problem, held: &Hand) -> Result<Fate, NoMemory>
     requires prefix { IsPrefix p.now held.now.prefix }
     requires known { IsKnown held.now.mark }
     requires least { IsLeastFor p.now held.now.prefix held.now.mark }
     ensures { IfOk result (λ fate. IsFate p.now held.now.prefix (mark_seen held.now.mark) (fate_of fate)) }
 {
     match &held.mark {
-        Mark::Refuted(found) => Ok(Fate::Cut(found.copy(alloc)?)),
+        Mark::Refuted(found) => Ok(Fate::Cut(found.copy()?)),
         Mark::Open(strata) if held.prefix.as_slice().len() == p.inputs() => Ok(Fate::Language(
             *strata,
         )),
@@ -164,9 +160,9 @@ pub(crate) fn settle(
     let Some(held) = hand else {
         return Ok(());
     };
-    let fate = fate_of(alloc, p, held)?;
+    let fate = fate_of(p, held)?;
     let deed = Deed {
-        prefix: held.prefix.copy(alloc)?,
+        prefix: held.prefix.copy()?,
         fate,
     };
     let children = children_of(alloc, p, &deed)?;

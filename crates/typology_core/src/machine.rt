@@ -299,7 +299,7 @@ impl<'p> Machine<'p> {
         ensures made { OnOk result (self.new ≡ record self.old { state = consulted self.old.state w }) }
         ensures refused { OnErr result (self.new ≡ self.old) }
     {
-        pass(self.alloc, &mut self.hands[w], self.store.as_slice())
+        pass(&mut self.hands[w], self.store.as_slice())
     }
 
     fn learn(&mut self, w: usize) -> Result<(), NoMemory>

@@ -112,7 +112,7 @@ impl Queue {
         let next = InId(prefix.as_slice().len() as u32);
         let mut queue = Queue::new(alloc);
         for a in 0..p.classes(next) {
-            queue.put(prefix.child(alloc, ClassId(a as u16))?)?;
+            queue.put(prefix.child(ClassId(a as u16))?)?;
         }
         Ok(queue)
     }
