@@ -3,7 +3,6 @@ pub mod Fitting
 pub mod Reached
 pub mod Ascending
 pub mod Children
-pub mod Extensions
 pub mod Collected
 pub mod Named
 pub mod FromDeeds
