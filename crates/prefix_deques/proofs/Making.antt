@@ -116,8 +116,8 @@ one_within make k v [] h le lt = absurd (omega arith)
 one_within make k v (s ∷ ss) h le lt =
     let e = h.0.number in
     elim (eq-or-lt_of_le {n = k} {m = v} le) [
-    | inl i ↦ (let r = none_before make (k + 1) v ss h.1 (omega arith) in grind (arith, nat_tests))
-    | inr i ↦ (let r = one_within make (k + 1) v ss h.1 (omega arith) (omega arith) in grind (arith, nat_tests))
+      | inl i ↦ (let r = none_before make (k + 1) v ss h.1 (omega arith) in grind (arith, nat_tests))
+      | inr i ↦ (let r = one_within make (k + 1) v ss h.1 (omega arith) (omega arith) in grind (arith, nat_tests))
     ]
 
 pub is_make : (n : ℕ) (make : List DequeId) (ss : List SeatView) → NewFrom make 0 ss → length make ≡ n → length ss ≡ n → IsMake ss

@@ -67,7 +67,11 @@ fn part_all(
 }
 
 /// The lanes by deque: for each deque in order, the lane of each row to it. Each row has a lane to each deque, in order.
-fn columns(alloc: Global, deques: usize, mut rows: Vec<Vec<Lane>>) -> Result<Vec<Vec<Lane>>, NoMemory>
+fn columns(
+    alloc: Global,
+    deques: usize,
+    mut rows: Vec<Vec<Lane>>,
+) -> Result<Vec<Vec<Lane>>, NoMemory>
     requires { AreLong deques (lists_of rows.items) }
     ensures { IfOk result (λ columns. lists_of columns.items ≡ columns_from 0 deques (lists_of rows.items)) }
 {

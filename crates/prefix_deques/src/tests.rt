@@ -138,6 +138,7 @@ fn what_was_put_is_taken_stolen_or_left(rt: HostRuntime) -> Result<(), NoMemory>
 }
 
 const SEATS: usize = 8;
+
 const PUTS: usize = 1250;
 
 /// A seat, and the numbers of the prefixes that it got or was handed back.
@@ -163,7 +164,10 @@ fn turn(alloc: Global, hand: &mut Hand, put: usize) -> Result<(), NoMemory>
 {
     let number = hand.seat.number();
     let next = number.wrapping_add(1) % hand.seat.deques();
-    let p = Prefix::of(alloc, &[ClassId(number as u16), ClassId((put % PUTS) as u16)])?;
+    let p = Prefix::of(
+        alloc,
+        &[ClassId(number as u16), ClassId((put % PUTS) as u16)],
+    )?;
     if let Put::Back(p) = hand.seat.put(p) {
         hand.got.push(number_of(&p))?;
     }
@@ -241,7 +245,11 @@ fn eight_threads_lose_none_of_10_000_prefixes(rt: HostRuntime) -> Result<(), NoM
     all_turns(&rt, alloc, &mut hands);
     let times = ended(alloc, hands)?;
     for (number, often) in times.iter().enumerate() {
-        assert_eq!(rt; *often, usize::from(number < SEATS * PUTS), "prefix {number}");
+        assert_eq!(rt;
+            *often,
+            usize::from(number < SEATS * PUTS),
+            "prefix {number}"
+        );
     }
     Ok(())
 }

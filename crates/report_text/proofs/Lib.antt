@@ -8,3 +8,4 @@ pub mod Words
 pub mod Pieces
 pub mod Ranked
 pub mod Read
+pub mod Members

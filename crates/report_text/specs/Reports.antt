@@ -23,6 +23,10 @@ constraint_lines tableau =
 abbrev pub members : InputRows → List ℕ → List (List ℕ)
 members rows profile = map (λ row. row.text) (filter (λ row. same_profile profile row.violations) rows.candidates)
 
+-- the text of the candidate at a position
+abbrev pub text_at : InputRows → ℕ → List ℕ
+text_at rows k = slice_index_or (map (λ row. row.text) rows.candidates) k []
+
 abbrev pub class_line : ℕ → InputRows → ℕ → List ℕ → List ℕ
 class_line i rows a profile =
     line (codes "class" ∷ (decimal i ++ codes "." ++ decimal a) ∷ spaced profile ∷ members rows profile)

@@ -1,8 +1,8 @@
 //! What every report begins with: the title, the constraints, and the inputs with their classes.
 
-ghost use Rattle.std.specs.Prelude.{◌≡◌, ◌+◌, ◌<◌, ◌∷◌, [], ◌++◌, length, codes, decimal, flat_map, slice_get, OnOk, Some};
-ghost use Rattle.ot_theory.specs.Problems.{Input};
-ghost use Rattle.ot_base.specs.Tableaus.{problem_of};
+ghost use Rattle.std.specs.Prelude.{◌≡◌, ◌+◌, ◌<◌, ◌∷◌, [], ◌++◌, length, codes, decimal, flat_map, map, slice_get, All, OnOk, Some};
+ghost use Rattle.ot_theory.specs.Problems.{members_of};
+ghost use Rattle.ot_base.specs.Tableaus.{input_of_rows, problem_of};
 ghost use Rattle.report_text.specs.Spelling.{line, spaced};
 ghost use Rattle.report_text.specs.Reports as reports;
 
@@ -70,9 +70,9 @@ fn put_constraint(
 
 /// The line of an input, and those of its classes.
 fn put_input(text: &mut Text, i: InId, rows: &InputRows, problem: &Problem) -> Result<(), NoMemory>
-    requires { i.0 < length problem.now.inputs }
-    ensures { OnOk result ((input : Input) → slice_get problem.now.inputs i.0 ≡ Some input
-        → text.new ≡ text.old ++ reports.input_lines (i.0 + 1) rows.now input) }
+    requires within { i.0 < length problem.now.inputs }
+    requires posed { slice_get problem.now.inputs i.0 ≡ Some (input_of_rows rows.now) }
+    ensures { OnOk result (text.new ≡ text.old ++ reports.input_lines (i.0 + 1) rows.now (input_of_rows rows.now)) }
 {
     let number = i.0 as usize + 1;
     let classes = problem.classes(i);
@@ -82,8 +82,10 @@ fn put_input(text: &mut Text, i: InId, rows: &InputRows, problem: &Problem) -> R
     text.number_field(classes)?;
     text.end_line()?;
     for a in 0..classes {
-        let profile = problem.profile(i, ClassId(a as u16));
-        put_class(text, number, rows, a + 1, profile)?;
+        let class = ClassId(a as u16);
+        let profile = problem.profile(i, class);
+        let members = problem.members(i, class);
+        put_class(text, number, rows, a + 1, profile, members)?;
     }
     Ok(())
 }
@@ -95,7 +97,9 @@ fn put_class(
     rows: &InputRows,
     a: usize,
     profile: &[u32],
+    members: &[u32],
 ) -> Result<(), NoMemory>
+    requires { members.now ≡ members_of (map (λ row. row.violations) rows.now.candidates) profile.now }
     ensures { OnOk result (text.new ≡ text.old ++ reports.class_line i rows.now a profile.now) }
 {
     text.put(b"class")?;
@@ -104,7 +108,7 @@ fn put_class(
     text.number(a)?;
     text.put(b"\t")?;
     put_spaced(text, profile)?;
-    put_members(text, rows, profile)?;
+    put_members(text, rows, members)?;
     text.end_line()
 }
 
@@ -118,14 +122,14 @@ fn put_spaced(text: &mut Text, numbers: &[u32]) -> Result<(), NoMemory>
     Ok(())
 }
 
-/// The texts of the candidates with a profile, in file order, each as a field.
-fn put_members(text: &mut Text, rows: &InputRows, profile: &[u32]) -> Result<(), NoMemory>
-    ensures { OnOk result (text.new ≡ text.old ++ flat_map (λ member. 9 ∷ member) (reports.members rows.now profile.now)) }
+/// The texts of the candidates at these positions, each as a field.
+fn put_members(text: &mut Text, rows: &InputRows, members: &[u32]) -> Result<(), NoMemory>
+    requires { All (λ k. k < length rows.now.candidates) members.now }
+    ensures { OnOk result (text.new ≡ text.old ++ flat_map (λ member. 9 ∷ member) (map (reports.text_at rows.now) members.now)) }
 {
-    for row in rows.candidates.as_slice() {
-        if profile == row.violations.as_slice() {
-            text.field(row.text.bytes())?;
-        }
+    let candidates = rows.candidates.as_slice();
+    for k in members {
+        text.field(candidates[*k as usize].text.bytes())?;
     }
     Ok(())
 }

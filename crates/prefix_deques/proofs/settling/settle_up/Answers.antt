@@ -65,10 +65,10 @@ loop-number-preserved c =
     let back = sym (ap (λ (y : ℕ × OwnerView). y.1) n.owner ∙ c.into_deque.ensures.view) in
     let e = c.in_ok-close.ensures in
     let books : Agree n.desk.owner.puts (n.desk.owner.gets ++ all_gets col) = subst (λ (y : List LaneView). Agree n.desk.owner.puts (n.desk.owner.gets ++ all_gets y)) is
-        (subst (λ (x : OwnerView). Agree x.puts (x.gets ++ all_gets c.replace-lanes.result.items)) back e.books) in
+    (subst (λ (x : OwnerView). Agree x.puts (x.gets ++ all_gets c.replace-lanes.result.items)) back e.books) in
     let rest : c.close.new.left ≡ c.loop-number.left ++ drop (length (n.desk.owner.gets ++ all_gets col)) n.desk.owner.puts =
     subst (λ (y : List LaneView). c.close.new.left ≡ c.loop-number.left ++ drop (length (n.desk.owner.gets ++ all_gets y)) n.desk.owner.puts) is
-        (subst (λ (x : OwnerView). c.close.new.left ≡ c.loop-number.left ++ drop (length (x.gets ++ all_gets c.replace-lanes.result.items)) x.puts) back e.rest) in
+    (subst (λ (x : OwnerView). c.close.new.left ≡ c.loop-number.left ++ drop (length (x.gets ++ all_gets c.replace-lanes.result.items)) x.puts) back e.rest) in
     let none : c.replace-lanes.new.dest.items ≡ [] = ap items_of c.replace-lanes.ensures.after ∙ c.new.ensures.items in
     let cut : lists_of (set c.loop-number.columns.items v c.replace-lanes.new.dest) ≡ set cols v [] = map-set items_of c.loop-number.columns.items v c.replace-lanes.new.dest ∙ ap (set cols v) none in (
       h.0,

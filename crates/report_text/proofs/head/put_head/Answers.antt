@@ -1,14 +1,27 @@
-use Rattle.std.proofs.Common.{◌≡◌, ℕ, ◌<◌, List, [], ◌∷◌, ◌++◌, length, codes, decimal, flat_map, arith, append_assoc, refl, sym, take_all, Some, ap}
+use Rattle.std.proofs.Common.{get_or, ◌≡◌, ℕ, ◌<◌, List, [], ◌∷◌, ◌++◌, length, codes, decimal, flat_map, arith, append_assoc, refl, sym, take_all, Some, ap}
 use Rattle.std.specs.List.{slice_get, zip, enumerate_from}
 use Rattle.std.proofs.lemmas.Option.{slice_get_read, get_or_from_slice_get}
 use Rattle.std.proofs.lemmas.Slice.Zip.{length-zip}
-use Rattle.ot_base.specs.Tableaus.{input_of_rows}
+use Rattle.ot_base.specs.declared.tableau.InputRows.{InputRows}
+use Rattle.ot_base.specs.declared.tableau.Tableau.{Tableau}
+use Rattle.ot_base.specs.Tableaus.{input_of_rows, problem_of}
+use Rattle.ot_theory.specs.Problems.{Problem}
 use Rattle.report_text.specs.Reports.{head, title, constraint_lines}
 use Rattle.report_text.specs.Spelling.{line}
 use Rattle.report_text.proofs.Grown.{numbered_pairs_more}
 use Rattle.report_text.proofs.Posed.{input_at, inputs-length}
 use Rattle.report_text.proofs.head.put_head.Invariants.{input_lines}
 use Rattle.report_text.proofs.head.put_head.Goals as goal
+
+-- the input of the rows that come next
+next_input : (tableau : Tableau) (problem : Problem) (all : List InputRows) (i : ℕ) (rows : InputRows) → problem ≡ problem_of tableau → all ≡ tableau.inputs → i < length all → rows ≡ get_or all i rows
+    → slice_get problem.inputs i ≡ Some (input_of_rows rows)
+next_input tableau problem all i rows posed same within here =
+    rw posed (input_at tableau i rows (slice_get_read tableau.inputs (length tableau.inputs) i rows refl (rw same at within) (rw same at here)))
+
+pub put_input-requires-clause-posed : goal.put_input-requires-clause-posed
+put_input-requires-clause-posed c =
+    next_input c.args.tableau.now c.args.problem.now c.as_slice-rows-items.result.now c.loop-i.i c.rows-item.result c.requires c.as_slice-rows-items.ensures (omega arith) c.rows-item.is
 
 pub loop-i-preserved : goal.loop-i-preserved
 loop-i-preserved c =
@@ -17,13 +30,11 @@ loop-i-preserved c =
     let here = rw c.as_slice-rows-items.ensures at c.rows-item.is in
     let within : c.loop-i.i < length t.inputs = omega (arith, ap length c.as_slice-rows-items.ensures) in
     let long : length c.args.problem.now.inputs ≡ length t.inputs = rw c.requires (inputs-length t) in
-    let there : slice_get c.args.problem.now.inputs c.loop-i.i ≡ Some (input_of_rows rows) =
-    rw c.requires (input_at t c.loop-i.i rows (slice_get_read t.inputs (length t.inputs) c.loop-i.i rows refl within here))
-    in
+    let there = next_input t c.args.problem.now c.as_slice-rows-items.result.now c.loop-i.i rows c.requires c.as_slice-rows-items.ensures (omega arith) c.rows-item.is in
     let e = numbered_pairs_more input_lines t.inputs c.args.problem.now.inputs c.loop-i.i rows (input_of_rows rows)
     within (omega arith) here (sym (get_or_from_slice_get c.args.problem.now.inputs c.loop-i.i (input_of_rows rows) (input_of_rows rows) there))
     in
-    rw (e, c.in_ok-put_input.ensures (input_of_rows rows) there, c.loop-i.invariant) (simp append_assoc)
+    rw (e, c.in_ok-put_input.ensures, c.loop-i.invariant) (simp append_assoc)
 
 appended : (text title constraints count inputs : List ℕ) → text ++ title ++ constraints ++ count ++ inputs ≡ text ++ (title ++ constraints ++ count ++ inputs)
 appended text title constraints count inputs = simp append_assoc

@@ -1,11 +1,8 @@
--- the members among the first candidates are written
-use Rattle.std.proofs.Common.{◌≡◌, ℕ, List, ◌∷◌, ◌++◌, take, map, flat_map, filter}
-use Rattle.ot_theory.specs.Problems.{same_profile}
+-- the texts of the first members are written
+use Rattle.std.proofs.Common.{◌≡◌, ◌++◌, take}
+use Rattle.report_text.specs.Reports.{text_at}
+use Rattle.report_text.proofs.Grown.{fields}
 use Rattle.report_text.proofs.head.put_members.Given as goal
 
-abbrev pub field : List ℕ → List ℕ
-field member = 9 ∷ member
-
-abbrev pub invariant-loop-row : goal.invariant-loop-row
-invariant-loop-row l =
-    l.text ≡ l.initial.text ++ flat_map field (map (λ row. row.text) (filter (λ row. same_profile l.profile row.violations) (take l.row-index l.rows.candidates)))
+abbrev pub invariant-loop-k : goal.invariant-loop-k
+invariant-loop-k l = l.text ≡ l.initial.text ++ fields (text_at l.rows) (take l.k-index l.members)
