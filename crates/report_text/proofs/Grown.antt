@@ -1,9 +1,8 @@
 -- Texts that grow by the pieces of a list's items, one more item at a time.
-use Rattle.std.proofs.Common.{◌≡◌, ℕ, ◌+◌, ◌<◌, List, [], ◌∷◌, ◌++◌, length, get_or, take, map, filter, Bool, true, false, cond, flat_map, arith, refl, sym, ◌∙◌, ap}
+use Rattle.std.proofs.Common.{◌≡◌, ℕ, ◌+◌, ◌<◌, List, [], ◌∷◌, ◌++◌, length, get_or, take, map, flat_map, arith, refl, sym, ◌∙◌, ap}
 use Rattle.std.specs.List.{enumerate_from, zip}
 use Rattle.std.proofs.lemmas.List.{take_more, length-take-le, append-nil, map-append, length-map, get_or-map}
 use Rattle.std.proofs.lemmas.List.Concat.{flat_map-append}
-use Rattle.std.proofs.lemmas.List.Elements.{filter_more}
 use Rattle.std.proofs.lemmas.Slice.Zip.{length-zip, get_or-zip}
 
 enumerate_from-push : {X : Type 0} (n : ℕ) (xs : List X) (x : X) → enumerate_from n (xs ++ x ∷ []) ≡ enumerate_from n xs ++ (n + length xs, x) ∷ []
@@ -35,14 +34,6 @@ counted_more f xs k x d below here = let e : k + 0 ≡ k = omega arith in rw e a
 pub numbered_pairs_more : {X Y : Type 0} (f : ℕ × (X × Y) → List ℕ) (xs : List X) (ys : List Y) (k : ℕ) (x : X) (y : Y) → k < length xs → k < length ys → x ≡ get_or xs k x → y ≡ get_or ys k y → flat_map f (enumerate_from 1 (take (k + 1) (zip xs ys))) ≡ flat_map f (enumerate_from 1 (take k (zip xs ys))) ++ f (k + 1, (x, y))
 numbered_pairs_more f xs ys k x y in_xs in_ys x-here y-here =
     numbered_more f (zip xs ys) k (x, y) (x, y) (omega (arith, length-zip xs ys)) (rw (get_or-zip xs ys k (x, y) in_xs in_ys, ← x-here, ← y-here) refl)
-
-kept : {X Y : Type 0} (f : Y → List ℕ) (part : X → Y) (x : X) (passes : Bool) → flat_map f (map part (cond passes (x ∷ []) [])) ≡ cond passes (f (part x)) []
-kept f part x true = append-nil (f (part x))
-kept f part x false = refl
-
--- the items that pass a test, each by a part of it
-pub passing_more : {X Y : Type 0} (f : Y → List ℕ) (part : X → Y) (test : X → Bool) (xs : List X) (k : ℕ) (x : X) → k < length xs → x ≡ get_or xs k x → flat_map f (map part (filter test (take (k + 1) xs))) ≡ flat_map f (map part (filter test (take k xs))) ++ cond (test x) (f (part x)) []
-passing_more f part test xs k x below here = rw (filter_more test xs k x below, ← here, map-append, flat_map-append, kept f part x (test x)) refl
 
 -- items as fields, each behind a tab
 abbrev pub fields : {X : Type 0} → (X → List ℕ) → List X → List ℕ

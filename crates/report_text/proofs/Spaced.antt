@@ -51,7 +51,7 @@ join_by-push f separator [] x = append-nil (f x)
 join_by-push f separator (y ∷ xs) x =
     rw (flat_map-append (λ z. separator ++ f z) xs (x ∷ []), append-nil (separator ++ f x)) (sym (append_assoc (f y) (flat_map (λ z. separator ++ f z) xs) (separator ++ f x)))
 
-pub range-push : (a n : ℕ) → range_with_len a (n + 1) ≡ range_with_len a n ++ (a + n) ∷ []
+range-push : (a n : ℕ) → range_with_len a (n + 1) ≡ range_with_len a n ++ (a + n) ∷ []
 range-push a n = simp map-id at (map-range_with_len_more (λ (x : ℕ). x) a n (a + n) refl)
 
 first_in_range : (a n : ℕ) → is_first (range_with_len a n) ≡ eqb n 0

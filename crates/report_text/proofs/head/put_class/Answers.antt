@@ -1,6 +1,5 @@
-use Rattle.std.proofs.Common.{◌≡◌, ◌∷◌, [], ◌<◌, ◌++◌, ℕ, List, All, length, map, rules, append_assoc, ap, sym}
+use Rattle.std.proofs.Common.{◌≡◌, map, rules, append_assoc}
 use Rattle.std.proofs.lemmas.Result.{IfOk-equal}
-use Rattle.ot_theory.specs.Problems.{members_of}
 use Rattle.report_text.specs.Spelling.{spaced}
 use Rattle.report_text.specs.Reports.{members, text_at}
 use Rattle.report_text.proofs.Members.{members-by_position, members-within}

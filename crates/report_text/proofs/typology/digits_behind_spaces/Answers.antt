@@ -1,4 +1,4 @@
-use Rattle.std.proofs.Common.{◌∙◌, ◌+◌, ◌*◌, ◌<◌, length, arith, sym, slice_set}
+use Rattle.std.proofs.Common.{◌+◌, ◌*◌, ◌<◌, length, arith, sym}
 use Rattle.std.proofs.lemmas.List.{length-set}
 use Rattle.report_text.proofs.Spaced.{behind-digit, take-two}
 use Rattle.report_text.proofs.typology.digits_behind_spaces.Goals as goal
