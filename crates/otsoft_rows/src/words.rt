@@ -14,7 +14,6 @@ enum Asked {
         file: &'static str,
         workers: usize,
         places: usize,
-        schedule: Option<u64>,
     },
     Rank {
         file: &'static str,
@@ -23,12 +22,11 @@ enum Asked {
 }
 
 /// The typology of the file `A`.
-fn typology(workers: usize, places: usize, schedule: Option<u64>) -> Asked {
+fn typology(workers: usize, places: usize) -> Asked {
     Asked::Typology {
         file: "A",
         workers,
         places,
-        schedule,
     }
 }
 
@@ -38,7 +36,6 @@ fn plain(file: &'static str) -> Asked {
         file,
         workers: 1,
         places: 1_024,
-        schedule: None,
     }
 }
 
@@ -51,16 +48,14 @@ fn is_asked(answer: &Result<Settings, WordsError>, asked: &Asked) -> bool {
                     file,
                     workers,
                     places,
-                    schedule,
                 },
             ),
             Asked::Typology {
                 file: name,
                 workers: count,
                 places: room,
-                schedule: number,
             },
-        ) => { file.as_str() == *name && workers == count && places == room && schedule == number }
+        ) => { file.as_str() == *name && workers == count && places == room }
         (Ok(Settings::Rank { file }), Asked::Rank { file: name }) => file.as_str() == *name,
         (Err(WordsError::Bad), Asked::Bad) => true,
         _ => false,
@@ -70,7 +65,7 @@ fn is_asked(answer: &Result<Settings, WordsError>, asked: &Asked) -> bool {
 #[test]
 fn words_give_their_settings(rt: HostRuntime) -> Result<(), Fail> {
     let rank = Asked::Rank { file: "A" };
-    let rows: [(&str, &[&str], Asked); 21] = [
+    let rows: [(&str, &[&str], Asked); 19] = [
         ("no option", &["typology", "A"], plain("A")),
         ("a ranking", &["rank", "A"], rank),
         ("a file of no name", &["typology", ""], plain("")),
@@ -82,47 +77,37 @@ fn words_give_their_settings(rt: HostRuntime) -> Result<(), Fail> {
         (
             "a zero in front",
             &["typology", "A", "--workers=02"],
-            typology(2, 1_024, None),
+            typology(2, 1_024),
         ),
         (
             "one worker",
             &["typology", "A", "--workers", "1"],
-            typology(1, 1_024, None),
+            typology(1, 1_024),
         ),
         (
             "64 workers",
             &["typology", "A", "--workers", "64"],
-            typology(64, 1_024, None),
+            typology(64, 1_024),
         ),
         (
             "no places",
             &["typology", "A", "--store", "0"],
-            typology(1, 0, None),
+            typology(1, 0),
         ),
         (
             "4,096 places",
             &["typology", "A", "--store=4096"],
-            typology(1, 4_096, None),
-        ),
-        (
-            "schedule 0",
-            &["typology", "A", "--schedule", "0"],
-            typology(1, 1_024, Some(0)),
-        ),
-        (
-            "the last schedule",
-            &["typology", "A", "--schedule", "18446744073709551615"],
-            typology(1, 1_024, Some(u64::MAX)),
+            typology(1, 4_096),
         ),
         (
             "20 digits",
             &["typology", "A", "--workers", "00000000000000000003"],
-            typology(3, 1_024, None),
+            typology(3, 1_024),
         ),
         (
             "options before the command",
             &["--store", "7", "--workers=2", "typology", "A"],
-            typology(2, 7, None),
+            typology(2, 7),
         ),
         (
             "options round the words",
@@ -130,23 +115,22 @@ fn words_give_their_settings(rt: HostRuntime) -> Result<(), Fail> {
                 "--store",
                 "7",
                 "typology",
-                "--schedule=9",
                 "A",
                 "--workers",
                 "2",
             ],
-            typology(2, 7, Some(9)),
+            typology(2, 7),
         ),
         (
             "options before the dashes",
             &["typology", "--workers", "2", "--", "A"],
-            typology(2, 1_024, None),
+            typology(2, 1_024),
         ),
         ("a ranking behind dashes", &["rank", "--", "A"], rank),
         (
             "a command behind dashes",
             &["--workers=2", "--", "typology", "A"],
-            typology(2, 1_024, None),
+            typology(2, 1_024),
         ),
     ];
     for (name, words, asked) in &rows {
@@ -159,7 +143,7 @@ fn words_give_their_settings(rt: HostRuntime) -> Result<(), Fail> {
 
 #[test]
 fn words_give_no_settings(rt: HostRuntime) -> Result<(), Fail> {
-    let rows: [(&str, &[&str]); 37] = [
+    let rows: [(&str, &[&str]); 36] = [
         ("no word", &[]),
         ("a command alone", &["typology"]),
         ("a ranking alone", &["rank"]),
@@ -200,12 +184,8 @@ fn words_give_no_settings(rt: HostRuntime) -> Result<(), Fail> {
         ),
         ("4,097 places", &["typology", "A", "--store", "4097"]),
         (
-            "a schedule past 64 bits",
-            &["typology", "A", "--schedule", "18446744073709551616"],
-        ),
-        (
-            "a schedule of 20 nines",
-            &["typology", "A", "--schedule", "99999999999999999999"],
+            "workers of 20 nines",
+            &["typology", "A", "--workers", "99999999999999999999"],
         ),
         ("no value", &["typology", "A", "--workers"]),
         ("an empty value", &["typology", "A", "--workers="]),
@@ -298,7 +278,7 @@ fn options_change_no_report(rt: HostRuntime) -> Result<(), Fail> {
         &["typology", "A", "--store", "0"],
         &["--store=1", "typology", "A"],
         &["typology", "--store", "4096", "A"],
-        &["typology", "--workers", "3", "--schedule", "9", "--", "A"],
+        &["typology", "--workers", "3", "--store", "9", "--", "A"],
     ];
     for words in &rows {
         let left = run_on(
