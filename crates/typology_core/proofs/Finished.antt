@@ -1,5 +1,5 @@
 -- A state is finished exactly where all queues, hands and outboxes are empty. Its deeds are then balanced.
-use Rattle.std.proofs.Common.{◌≡◌, ◌↔◌, ℕ, zero, suc, ◌+◌, ◌<◌, List, [], ◌∷◌, ◌++◌, Bool, true, false, not, ◌&&◌, ◌==◌, arith, refl, sym, ◌∙◌, ap, subst, cond, inl, inr, length, map, flat_map, Option, Some, None}
+use Rattle.std.proofs.Common.{◌≡◌, ◌↔◌, ℕ, zero, suc, ◌<◌, List, [], ◌∷◌, ◌++◌, Bool, true, false, not, ◌&&◌, ◌==◌, arith, refl, sym, ◌∙◌, ap, subst, inl, inr, length, map, flat_map, Option, Some, None}
 use Rattle.std.specs.Prelude.{All, slice_get, is_none, nat_eq, count_by, nat_lt, IsTrue}
 use Rattle.std.specs.Cmp.Lexicographic.{pointwise}
 use Rattle.std.specs.List.{list_all}
@@ -9,15 +9,13 @@ use Rattle.std.proofs.lemmas.Bool.Decides.{eqb_tells}
 use Rattle.std.proofs.lemmas.Option.{slice_get_within, slice_get-get_or}
 use Rattle.std.proofs.lemmas.List.Elements.{All-append, All-head, All-tail, All-nil}
 use Rattle.ot_theory.specs.Problems.{Problem}
-use Rattle.typology_core.specs.Deeds.{Deed, AreBalanced, AreHonest, IsTrueOf, children, opened_in}
-use Rattle.typology_core.specs.Machine.{Hand, Mark, State, IsFinished, is_empty, is_enabled, is_filled, is_holding, is_idle, is_unknown}
-use Rattle.typology_core.specs.Machine.Mark.{Unknown, Open, Refuted}
-use Rattle.typology_core.specs.Kept.{AreTogether, IsKept, all_deeds, held, waiting}
+use Rattle.typology_core.specs.Deeds.{Deed, AreBalanced, AreHonest, IsTrueOf}
+use Rattle.typology_core.specs.Machine.{Hand, State, IsFinished, is_empty, is_filled, is_holding, is_idle, is_unknown}
+use Rattle.typology_core.specs.Kept.{IsKept, all_deeds, held, waiting}
 use Rattle.typology_core.specs.Gathered.{deeds_in, deeds_of}
 use Rattle.typology_core.specs.Seen.{hands_seen}
 use Rattle.typology_core.specs.declared.deed.Deed as done
 use Rattle.typology_core.specs.declared.hand.Hand as raw
-use Rattle.typology_core.specs.declared.step.Step.{Step}
 use Rattle.typology_core.specs.declared.step.Step.TheVariants.{Take, Steal, Consult, Learn, Settle, Put}
 
 -- what passes at each place passes at all, and the other way round

@@ -1,20 +1,19 @@
 -- Each list of steps keeps what is true of the states.
-use Rattle.std.proofs.Common.{◌≡◌, ℕ, ◌+◌, ◌<◌, ◌≤◌, List, [], ◌∷◌, ◌++◌, Bool, true, false, not, ◌&&◌, arith, refl, sym, ◌∙◌, ap, subst, cond, length, map, flat_map, get_or, set, take, drop, Option, Some, None}
-use Rattle.std.specs.Prelude.{All, slice_get, nat_lt, option_map}
+use Rattle.std.proofs.Common.{◌≡◌, ℕ, ◌<◌, List, [], ◌∷◌, ◌++◌, Bool, true, false, not, ◌&&◌, arith, refl, sym, ◌∙◌, ap, subst, cond, length, get_or, set, take, drop, Option, Some, None}
+use Rattle.std.specs.Prelude.{slice_get, nat_lt, option_map}
 use Rattle.std.specs.Option.{option_map_or}
 use Rattle.std.proofs.lemmas.Bool.{and_parts, ltb-true}
 use Rattle.std.proofs.lemmas.Option.{get_or_from_slice_get, slice_get_within, slice_get-get_or}
 use Rattle.ot_theory.specs.Problems.{Problem}
 use Rattle.ot_theory.specs.Languages.{Term, refuted, terms_of}
-use Rattle.ot_theory.specs.Refutations.{certificate_of, is_contradiction, refutes}
 use Rattle.ot_theory.proofs.Certificates.{certificate-contradiction}
 use Rattle.ot_theory.proofs.Optimal.{refuted-conditions}
 use Rattle.violation_profiles.specs.WellFormed.{IsPrefix, IsWellFormed}
 use Rattle.violation_profiles.proofs.Inputs.{AllFit-prefix}
 use Rattle.refutation.proofs.TermsOfPrefixes.{certificate-refutes, made-one, terms_of-genuine, terms_of-made}
-use Rattle.typology_core.specs.Deeds.{Deed, Fate}
-use Rattle.typology_core.specs.Machine.{Hand, IsAfter, LeadAll, Leads, Mark, State, consulted, in_hand, is_enabled, is_unknown, judged, judging, learnt, own_certificate, passing, picked, posted, settled, start, store_with}
-use Rattle.typology_core.specs.Machine.Mark.{Unknown, Open, Refuted}
+use Rattle.typology_core.specs.Deeds.{Fate}
+use Rattle.typology_core.specs.Machine.{Hand, LeadAll, Leads, State, in_hand, is_unknown, judged, judging, own_certificate, passing, picked, start, store_with}
+use Rattle.typology_core.specs.Machine.Mark.{Open, Refuted}
 use Rattle.typology_core.specs.Kept.{IsKept, IsTrueHand, IsTrueMark}
 use Rattle.typology_core.specs.Standing.{IsReachedBy}
 use Rattle.typology_core.specs.declared.step.Step.{Step}

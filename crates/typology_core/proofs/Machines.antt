@@ -1,5 +1,5 @@
 -- The steps of the program are those of the machine, and keep what is true of its states.
-use Rattle.std.proofs.Common.{◌≡◌, ℕ, zero, suc, ◌+◌, ◌<◌, ◌≤◌, List, [], ◌∷◌, ◌++◌, Bool, true, false, not, ◌&&◌, arith, refl, sym, ◌∙◌, ap, subst, cond, length, map, flat_map, get_or, set, take, drop, replicate, Option, Some, None, Result, Ok, Err}
+use Rattle.std.proofs.Common.{◌≡◌, ℕ, zero, suc, ◌<◌, ◌≤◌, List, [], ◌∷◌, ◌++◌, Bool, true, false, not, ◌&&◌, arith, refl, sym, ◌∙◌, ap, subst, cond, length, map, flat_map, get_or, set, take, drop, replicate, Option, Some, None, Result, Ok, Err}
 use Rattle.std.specs.Prelude.{All, IfSome, OnOk, OnErr, slice_get, nat_lt, option_map}
 use Rattle.std.specs.Option.{option_map_or}
 use Rattle.typology_core.specs.declared.step.Step.TheVariants.{Consult, Learn, Settle}
@@ -8,17 +8,17 @@ use Rattle.refutation.specs.Typologies.{certificates_of}
 use Rattle.refutation.specs.declared.contradiction.Contradiction.{Contradiction}
 use Rattle.typology_core.specs.Gathered.{deeds_in}
 use Rattle.typology_core.specs.Held.{IsSettled}
-use Rattle.std.proofs.lemmas.Bool.{and_parts, cases_Bool, ltb-true}
-use Rattle.std.proofs.lemmas.List.{map-set, set-get_or, append-nil, length-map}
-use Rattle.std.proofs.lemmas.List.Elements.{All-set, All-push, All-nil}
-use Rattle.std.proofs.lemmas.Option.{get_or_from_slice_get, slice_get_within, slice_get-map, slice_get-get_or}
+use Rattle.std.proofs.lemmas.Bool.{and_parts, ltb-true}
+use Rattle.std.proofs.lemmas.List.{map-set, set-get_or, length-map}
+use Rattle.std.proofs.lemmas.List.Elements.{All-set}
+use Rattle.std.proofs.lemmas.Option.{get_or_from_slice_get, slice_get_within, slice_get-get_or}
 use Rattle.std.proofs.Math.ListN as listn
 use Rattle.ot_theory.specs.Problems.{Problem}
-use Rattle.ot_theory.specs.Languages.{Term, refuted}
+use Rattle.ot_theory.specs.Languages.{Term}
 use Rattle.ot_theory.specs.Refutations.{is_contradiction, refutes}
 use Rattle.typology_core.specs.Deeds.{Deed, Fate, children, opened_by}
-use Rattle.typology_core.specs.Machine.{Hand, IsFate, IsFateOf, Mark, State, consulted, in_hand, is_enabled, is_filled, is_idle, is_unknown, judged, judging, learnt, own_certificate, passing, picked, posted, settled, start, store_with}
-use Rattle.typology_core.specs.Machine.Mark.{Unknown, Open, Refuted}
+use Rattle.typology_core.specs.Machine.{Hand, IsFate, IsFateOf, Mark, State, consulted, in_hand, is_enabled, is_filled, is_idle, is_unknown, judged, judging, learnt, passing, picked, posted, settled, start, store_with}
+use Rattle.typology_core.specs.Machine.Mark.{Refuted}
 use Rattle.typology_core.specs.Seen.{HasLeast, hand_seen, hands_seen}
 use Rattle.typology_core.specs.Kept.{IsKept, IsTrueHand, IsTrueMark}
 use Rattle.typology_core.specs.declared.hand.Hand as raw

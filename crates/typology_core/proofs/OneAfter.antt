@@ -1,13 +1,12 @@
 -- A step leads to one state alone, and so does a list of steps.
-use Rattle.std.proofs.Common.{◌≡◌, ℕ, ◌<◌, ◌≤◌, List, [], ◌∷◌, Bool, true, false, not, arith, refl, sym, ◌∙◌, ap, subst, length, get_or, Option, Some}
-use Rattle.std.specs.Prelude.{slice_get}
+use Rattle.std.proofs.Common.{◌≡◌, ℕ, ◌≤◌, List, [], ◌∷◌, not, arith, refl, sym, ◌∙◌, ap, subst, get_or}
 use Rattle.std.proofs.lemmas.Grind.{same_number_lists}
 use Rattle.ot_theory.specs.Hierarchies.{IsLeastHierarchy}
 use Rattle.ot_theory.specs.declared.Mark as marks
 use Rattle.ot_theory.specs.Problems.{Problem}
 use Rattle.typology_core.specs.Deeds.{Fate}
 use Rattle.typology_core.specs.Deeds.Fate.{Opened, Language, Cut}
-use Rattle.typology_core.specs.Machine.{Hand, IsFate, LeadAll, Leads, Mark, State, is_unknown, settled}
+use Rattle.typology_core.specs.Machine.{IsFate, LeadAll, Leads, Mark, State, is_unknown, settled}
 use Rattle.typology_core.specs.Machine.Mark.{Unknown, Open, Refuted}
 use Rattle.typology_core.specs.declared.step.Step.{Step}
 use Rattle.typology_core.specs.declared.step.Step.TheVariants.{Take, Steal, Consult, Learn, Settle, Put}

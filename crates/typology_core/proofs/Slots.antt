@@ -1,5 +1,5 @@
 -- What stands at a place of a list, and what a list weighs when one place of it has changed.
-use Rattle.std.proofs.Common.{◌≡◌, ℕ, zero, suc, ◌+◌, ◌<◌, List, [], ◌∷◌, ◌++◌, Bool, true, false, not, arith, refl, sym, ◌∙◌, ap, subst, length, flat_map, get_or, set, Option, Some, None}
+use Rattle.std.proofs.Common.{◌≡◌, ℕ, zero, suc, ◌+◌, List, [], ◌∷◌, ◌++◌, Bool, true, false, not, arith, refl, ap, subst, length, flat_map, set, Option, Some, None}
 use Rattle.std.specs.Prelude.{All, slice_get, is_some, nat_eq}
 use Rattle.std.specs.Option.{option_map_or}
 use Rattle.std.proofs.lemmas.Option.{get_or_from_slice_get, slice_get_within}

@@ -1,7 +1,6 @@
 -- Each choice stands in one place.
-use Rattle.std.proofs.Common.{◌≡◌, ℕ, zero, suc, ◌+◌, ◌<◌, ◌≤◌, List, [], ◌∷◌, ◌++◌, Bool, true, false, not, ◌&&◌, arith, refl, sym, ◌∙◌, ap, subst, cond, length, map, flat_map, get_or, take, length-append, length-take}
-use Rattle.std.specs.Prelude.{All, count_by, nat_eq, nat_lt, slice_index}
-use Rattle.std.specs.Cmp.Lexicographic.{pointwise}
+use Rattle.std.proofs.Common.{◌≡◌, ℕ, zero, suc, ◌+◌, ◌<◌, List, [], ◌∷◌, ◌++◌, Bool, true, arith, refl, sym, ◌∙◌, ap, cond, length, map, flat_map, get_or, take, length-append, length-take}
+use Rattle.std.specs.Prelude.{count_by, nat_lt}
 use Rattle.std.specs.List.{range_with_len}
 use Rattle.std.proofs.lemmas.Bool.{lt-ltb}
 use Rattle.std.proofs.lemmas.List.{append-nil, take_more, take_all}
@@ -9,11 +8,9 @@ use Rattle.std.proofs.lemmas.List.Elements.{All-head, All-tail}
 use Rattle.std.proofs.lemmas.List.Sums.{sum_by-append, sum_by-cons}
 use Rattle.ot_theory.specs.Problems.{Problem}
 use Rattle.ot_theory.specs.Languages.{classes_at}
-use Rattle.ot_theory.specs.Rankings.{numbers_below}
-use Rattle.violation_profiles.specs.WellFormed.{IsPrefix}
 use Rattle.typology_core.specs.Deeds.{Deed, Fate, AreHonest, IsTrueOf, children, cut_by, cuts_in, language_by, languages_in, opened_by, opened_in, times}
 use Rattle.typology_core.specs.Deeds.Fate.{Opened, Language, Cut}
-use Rattle.typology_core.specs.Kept.{IsKept, all_deeds, waiting}
+use Rattle.typology_core.specs.Kept.{IsKept, all_deeds}
 use Rattle.typology_core.specs.Machine.{State}
 use Rattle.typology_core.specs.Standing.{IsChoice, StandsOnce, is_below}
 use Rattle.typology_core.proofs.Counts.{same, times-cons}

@@ -1,22 +1,19 @@
 -- What is true of each state stays true through every step.
-use Rattle.std.proofs.Common.{◌≡◌, ℕ, zero, suc, ◌+◌, ◌<◌, List, [], ◌∷◌, ◌++◌, Bool, true, false, ◌&&◌, arith, refl, sym, ◌∙◌, ap, subst, cond, inl, inr, length, map, flat_map, get_or, set, take, drop, replicate, Option, Some, None}
-use Rattle.std.specs.Prelude.{All, slice_get, count_by, sum_by, nat_lt, option_map}
-use Rattle.std.proofs.lemmas.Bool.{cases_Bool}
+use Rattle.std.proofs.Common.{◌≡◌, ℕ, zero, suc, ◌+◌, ◌<◌, List, [], ◌∷◌, ◌++◌, Bool, true, false, ◌&&◌, arith, refl, sym, ◌∙◌, ap, subst, cond, length, map, flat_map, set, replicate, Option, Some, None}
+use Rattle.std.specs.Prelude.{All, slice_get, count_by, nat_lt}
 use Rattle.std.proofs.lemmas.List.{length-set, length-replicate, map-append, append-nil}
 use Rattle.std.proofs.lemmas.List.Concat.{flat_map-append}
 use Rattle.std.proofs.lemmas.List.Elements.{All-set, All-append, All-push, All-head, All-tail, All-cons, All-nil}
 use Rattle.std.proofs.lemmas.List.Sums.{sum_by-append, sum_by-cons}
-use Rattle.std.proofs.lemmas.Option.{get_or_from_slice_get, slice_get_within}
-use Rattle.ot_theory.specs.Hierarchies.{IsLeastHierarchy}
 use Rattle.ot_theory.specs.Problems.{Problem}
-use Rattle.ot_theory.specs.Languages.{Term, refuted, conditions_of, terms_of}
-use Rattle.ot_theory.specs.Refutations.{is_contradiction, refutes, certificate_of}
+use Rattle.ot_theory.specs.Languages.{Term, refuted}
+use Rattle.ot_theory.specs.Refutations.{is_contradiction}
 use Rattle.violation_profiles.specs.WellFormed.{IsPrefix}
 use Rattle.typology_core.specs.Deeds.{Deed, Fate, AreHonest, IsTrueOf, children, opened_by, opened_in}
 use Rattle.typology_core.specs.Deeds.Fate.{Opened, Language, Cut}
-use Rattle.typology_core.specs.Machine.{Hand, Mark, State, IsAfter, IsFate, IsFateOf, Leads, LeadAll, consulted, in_hand, is_enabled, judged, learnt, own_certificate, passing, picked, posted, settled, start, store_with}
+use Rattle.typology_core.specs.Machine.{Hand, Mark, State, IsFate, in_hand, judged, own_certificate, start, store_with}
 use Rattle.typology_core.specs.Machine.Mark.{Unknown, Open, Refuted}
-use Rattle.typology_core.specs.Kept.{AreTogether, IsKept, IsTrueHand, IsTrueMark, all_deeds, held, waiting}
+use Rattle.typology_core.specs.Kept.{IsKept, IsTrueHand, IsTrueMark, all_deeds, held, waiting}
 use Rattle.typology_core.proofs.Children.{IsPrefix-children}
 use Rattle.typology_core.proofs.Slots.{All-at, weight-set}
 

@@ -1,7 +1,7 @@
 -- What is true of each state that the machine comes to.
 use Rattle.std.specs.Prelude.{◌≡◌, ℕ, ◌+◌, Bool, true, false, List, [], ◌∷◌, ◌++◌, length, map, flat_map, count_by, Option, Some, None, All}
 use Rattle.ot_theory.specs.Problems.{Problem}
-use Rattle.ot_theory.specs.Languages.{Term, refuted}
+use Rattle.ot_theory.specs.Languages.{refuted}
 use Rattle.ot_theory.specs.Refutations.{is_contradiction, refutes}
 use Rattle.violation_profiles.specs.WellFormed.{IsPrefix}
 use Rattle.typology_core.specs.Deeds.{Deed, AreHonest, children, opened_in}

@@ -1,5 +1,5 @@
 -- What a machine holds, as contracts see it.
-use Rattle.std.specs.Prelude.{List, map, All}
+use Rattle.std.specs.Prelude.{map, All}
 use Rattle.refutation.specs.Typologies.{certificates_of}
 use Rattle.typology_core.specs.Gathered.{deeds_in}
 use Rattle.typology_core.specs.Kept.{IsKept}

@@ -1,11 +1,9 @@
 -- How contracts see a machine: the problem, the number of places, the state, and the number of Learn steps so far.
-use Rattle.std.specs.Prelude.{◌≡◌, ℕ, List, map, length, Option, option_map, All, IfSome}
+use Rattle.std.specs.Prelude.{ℕ, List, map, Option, option_map, IfSome}
 use Rattle.ot_theory.specs.Hierarchies.{IsLeastHierarchy}
 use Rattle.ot_theory.specs.Problems.{Problem}
 use Rattle.ot_theory.specs.Languages.{conditions_of}
 use Rattle.refutation.specs.Terms.{terms_in}
-use Rattle.refutation.specs.Typologies.{certificates_of}
-use Rattle.typology_core.specs.Gathered.{deeds_in}
 use Rattle.typology_core.specs.Machine as theory
 use Rattle.typology_core.specs.declared.hand.Mark as marks
 use Rattle.typology_core.specs.declared.hand.Mark.TheVariants as mark

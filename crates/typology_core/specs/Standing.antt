@@ -3,9 +3,9 @@ use Rattle.std.specs.Prelude.{◌≡◌, ℕ, ◌+◌, ◌≤◌, Bool, List, le
 use Rattle.std.specs.Cmp.Lexicographic.{pointwise}
 use Rattle.ot_theory.specs.Problems.{Problem}
 use Rattle.violation_profiles.specs.WellFormed.{IsPrefix, IsWellFormed}
-use Rattle.typology_core.specs.Deeds.{AreBalanced, AreHonest, cuts_in, languages_in, times}
-use Rattle.typology_core.specs.Kept.{IsKept, all_deeds, waiting}
-use Rattle.typology_core.specs.Machine.{IsFinished, LeadAll, State, is_empty, start}
+use Rattle.typology_core.specs.Deeds.{cuts_in, languages_in, times}
+use Rattle.typology_core.specs.Kept.{all_deeds, waiting}
+use Rattle.typology_core.specs.Machine.{LeadAll, State, start}
 use Rattle.typology_core.specs.declared.step.Step.{Step}
 
 -- a choice stands below a prefix that consists of its first classes

@@ -1,5 +1,5 @@
 -- as many of them so far
-use Rattle.std.proofs.Common.{◌≡◌, [], None, replicate}
+use Rattle.std.proofs.Common.{◌≡◌, [], replicate}
 use Rattle.typology_core.proofs.machine.no_deeds.Given as goal
 
 abbrev pub invariant-loop : goal.invariant-loop

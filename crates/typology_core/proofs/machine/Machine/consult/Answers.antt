@@ -1,9 +1,8 @@
 -- The next entry of the store is passed, or nothing changes.
-use Rattle.std.proofs.Common.{◌≡◌, ap, map}
+use Rattle.std.proofs.Common.{ap, map}
 use Rattle.refutation.specs.Typologies.{certificates_of}
 use Rattle.typology_core.specs.Gathered.{deeds_in}
-use Rattle.typology_core.specs.Machine.{State, consulted}
-use Rattle.typology_core.specs.MachineView.{state_in}
+use Rattle.typology_core.specs.Machine.{State}
 use Rattle.typology_core.specs.Seen.{Progress}
 use Rattle.typology_core.proofs.Machines.{OnOk-map, consults}
 use Rattle.typology_core.proofs.machine.Machine.consult.Goals as goal

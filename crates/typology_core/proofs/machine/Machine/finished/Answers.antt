@@ -1,5 +1,5 @@
 -- No step is enabled exactly where all are empty.
-use Rattle.std.proofs.Common.{◌≡◌, ◌↔◌, ◌&&◌, ap, subst, ◌∙◌, sym}
+use Rattle.std.proofs.Common.{◌≡◌, ◌↔◌, subst}
 use Rattle.std.specs.Prelude.{IsTrue}
 use Rattle.typology_core.specs.Machine.{IsFinished, is_empty}
 use Rattle.typology_core.specs.MachineView.{state_in}

@@ -1,5 +1,5 @@
 -- The prefix in the hand is judged.
-use Rattle.std.proofs.Common.{◌≡◌, ap, map, ◌∙◌, sym}
+use Rattle.std.proofs.Common.{ap, map}
 use Rattle.ot_base.specs.Causes.{next_number}
 use Rattle.refutation.specs.Typologies.{certificates_of}
 use Rattle.typology_core.specs.Gathered.{deeds_in}

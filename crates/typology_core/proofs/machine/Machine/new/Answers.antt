@@ -1,5 +1,5 @@
 -- Only the queue of worker 0 holds something at the start.
-use Rattle.std.proofs.Common.{◌≡◌, ap}
+use Rattle.std.proofs.Common.{ap}
 use Rattle.typology_core.specs.Machine.{State}
 use Rattle.typology_core.specs.Seen.{Progress}
 use Rattle.typology_core.proofs.Machines.{starts}

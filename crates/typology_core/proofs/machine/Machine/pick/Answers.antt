@@ -1,5 +1,5 @@
 -- The front of a queue that is not empty goes into the hand.
-use Rattle.std.proofs.Common.{◌≡◌, ap, map, Some}
+use Rattle.std.proofs.Common.{ap, map}
 use Rattle.refutation.specs.Typologies.{certificates_of}
 use Rattle.typology_core.specs.Gathered.{deeds_in}
 use Rattle.typology_core.specs.Machine.{State}

@@ -1,5 +1,5 @@
 -- The front of the outbox goes to the back of the queue, or nothing changes.
-use Rattle.std.proofs.Common.{◌≡◌, map}
+use Rattle.std.proofs.Common.{map}
 use Rattle.refutation.specs.Typologies.{certificates_of}
 use Rattle.typology_core.specs.Gathered.{deeds_in}
 use Rattle.typology_core.proofs.Machines.{posts}

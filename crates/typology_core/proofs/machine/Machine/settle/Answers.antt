@@ -1,7 +1,5 @@
 -- The deed of the prefix in the hand is added, or nothing changes.
-use Rattle.std.proofs.Common.{◌≡◌, ap, map}
 use Rattle.refutation.specs.Typologies.{certificates_of}
-use Rattle.typology_core.specs.Gathered.{deeds_in}
 use Rattle.typology_core.proofs.Machines.{OnOk-map, settles}
 use Rattle.typology_core.proofs.machine.Machine.settle.Goals as goal
 
