@@ -208,14 +208,50 @@ fn violations_of(alloc: Global, n: usize, cells: &mut Cells<'_>) -> Result<List<
     ensures fault { (why : Why) → result ≡ Err (LineError.Fault why) → (why ≡ Why.BadViolation) × (list_all is_violation (map (cell (map text_of cells.old)) (range_with_len 0 n)) ≡ false) }
 {
     let mut violations = List::new(alloc);
+    violations.reserve(n)?;
     for _ in 0..n {
-        let text = next_text(alloc, cells)?;
-        let Some(violation) = violation_of(text.bytes()) else {
-            return Err(LineError::Fault(Why::BadViolation));
-        };
+        let violation = next_violation(alloc, cells)?;
         violations.push(violation)?;
     }
     Ok(violations)
+}
+
+/// The violation in the next cell, or the fault of one that is none. Past the end of the line it is 0.
+fn next_violation(alloc: Global, cells: &mut Cells<'_>) -> Result<u32, LineError>
+    ensures sound { OnOk result (is_violation (cell (map text_of cells.old) 0) ≡ true) }
+    ensures value { IfOk result (λ violation. violation ≡ value_of (cell (map text_of cells.old) 0)) }
+    ensures rest { cells.new ≡ drop 1 cells.old }
+    ensures fault { (why : Why) → result ≡ Err (LineError.Fault why) → (why ≡ Why.BadViolation) × (is_violation (cell (map text_of cells.old) 0) ≡ false) }
+{
+    match cells.next() {
+        Some(cell) => violation_in(alloc, cell),
+        None => Ok(0),
+    }
+}
+
+/// The violation in a cell, or the fault of one that is none. Most cells are one digit, whose text need not be cut out.
+fn violation_in(alloc: Global, cell: &[u8]) -> Result<u32, LineError>
+    ensures sound { OnOk result (is_violation (text_of cell.now) ≡ true) }
+    ensures value { IfOk result (λ violation. violation ≡ value_of (text_of cell.now)) }
+    ensures fault { (why : Why) → result ≡ Err (LineError.Fault why) → (why ≡ Why.BadViolation) × (is_violation (text_of cell.now) ≡ false) }
+{
+    match cell {
+        [digit] if b'0' <= *digit && *digit <= b'9' => Ok(u32::from(*digit - b'0')),
+        _ => spelled_violation(alloc, cell),
+    }
+}
+
+/// The violation that the text of a cell spells.
+fn spelled_violation(alloc: Global, cell: &[u8]) -> Result<u32, LineError>
+    ensures sound { OnOk result (is_violation (text_of cell.now) ≡ true) }
+    ensures value { IfOk result (λ violation. violation ≡ value_of (text_of cell.now)) }
+    ensures fault { (why : Why) → result ≡ Err (LineError.Fault why) → (why ≡ Why.BadViolation) × (is_violation (text_of cell.now) ≡ false) }
+{
+    let text = tab_cells::unquote(alloc, cell)?;
+    match violation_of(text.bytes()) {
+        Some(violation) => Ok(violation),
+        None => Err(LineError::Fault(Why::BadViolation)),
+    }
 }
 
 /// The count in billionths and the n violations of a line of which the cells from the column of the count on are left, or
