@@ -111,14 +111,7 @@ fn words_give_their_settings(rt: HostRuntime) -> Result<(), Fail> {
         ),
         (
             "options round the words",
-            &[
-                "--store",
-                "7",
-                "typology",
-                "A",
-                "--workers",
-                "2",
-            ],
+            &["--store", "7", "typology", "A", "--workers", "2"],
             typology(2, 7),
         ),
         (
