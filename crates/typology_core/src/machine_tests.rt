@@ -27,15 +27,22 @@ fn turn(machine: &mut Machine, w: usize, next: usize)
     let _ = machine.step(Step::Put(w));
 }
 
+/// Gives each of three workers so many turns.
+fn take_turns(machine: &mut Machine, turns: usize)
+    ensures { machine.new.problem ≡ machine.old.problem }
+{
+    for _ in 0..turns {
+        turn(machine, 0, 1);
+        turn(machine, 1, 2);
+        turn(machine, 2, 0);
+    }
+}
+
 #[test]
 fn turns_of_three_workers_find_the_typology(rt: HostRuntime) -> Result<(), Fail> {
     let p = problem(rt.alloc(), &CODAS)?;
     let mut machine = Machine::new(rt.alloc(), &p, 3, 1)?;
-    for _ in 0..100_usize {
-        turn(&mut machine, 0, 1);
-        turn(&mut machine, 1, 2);
-        turn(&mut machine, 2, 0);
-    }
+    take_turns(&mut machine, 100);
     assert!(rt; machine.finished());
     let typology = gather(rt.alloc(), &p, machine.deeds())?;
     let text = shown(rt.alloc(), &typology)?;
