@@ -1,7 +1,9 @@
 ghost use Rattle.std.specs.Prelude.{◌≡◌, ◌<◌, length, IfOk, All};
 ghost use Rattle.ot_base.specs.Acceptable.{IsRow, AreRows, IsAcceptable};
 
-use crate::{TextError, contradiction_text, rank_text, read_typology_text, typology_text};
+use crate::{
+    REPORT_LIMIT, TextError, contradiction_text, rank_text, read_typology_text, typology_text,
+};
 use erc_vectors::{List, NoMemory, Strata};
 use ot_base::{CandidateRow, ClassId, InId, InputRows, Label, Tableau};
 use refutation::{Contradiction, Cut, Language, Prefix, Term, Typology, is_genuine};
@@ -316,7 +318,9 @@ fn reports_that_fit_and_that_do_not(rt: HostRuntime) {
         ),
     ];
     for (name, report, line) in table {
-        let answer = match read_typology_text(rt.alloc(), report.as_bytes()) {
+        let bytes = report.as_bytes();
+        assert!(rt; bytes.len() <= REPORT_LIMIT, "of {name}");
+        let answer = match read_typology_text(rt.alloc(), bytes) {
             Ok(typology) => {
                 assert_eq!(rt; typology.languages.len(), 2, "of {name}");
                 assert_eq!(rt; typology.certificates.len(), 1, "of {name}");
