@@ -1,12 +1,13 @@
 -- Worked examples: the definitions computed on small problems.
 use Rattle.std.proofs.Common.{◌≡◌, ℕ, List, [], ◌∷◌, map, refl}
-use Rattle.std.specs.Prelude.{true}
+use Rattle.std.specs.Prelude.{true, false}
 use Rattle.ot_theory.specs.declared.Mark.TheVariants.{W, L, E}
 use Rattle.ot_theory.specs.Rankings.{rankings, put_somewhere}
 use Rattle.ot_theory.specs.Hierarchies.{satisfies, order_along}
 use Rattle.ot_theory.specs.Problems.{Problem, input_of}
 use Rattle.ot_theory.specs.Languages.{languages, choices, refuted, conditions_of, Term}
 use Rattle.ot_theory.specs.Refutations.{certificates, certificate_named, cuts, prefixes, no_ranking_keeps, certificate_of}
+use Rattle.ot_theory.specs.Entailment.{entails}
 
 pub rankings_of_three : rankings 3 ≡ (2 ∷ 1 ∷ 0 ∷ []) ∷ (1 ∷ 2 ∷ 0 ∷ []) ∷ (1 ∷ 0 ∷ 2 ∷ []) ∷ (2 ∷ 0 ∷ 1 ∷ []) ∷ (0 ∷ 2 ∷ 1 ∷ []) ∷ (0 ∷ 1 ∷ 2 ∷ []) ∷ []
 unfolding rankings put_somewhere
@@ -117,3 +118,24 @@ certificates_of_syllables = refl
 pub certificates_named_of_syllables : map (certificate_named syllables) (cuts syllables) ≡ 0 ∷ 1 ∷ []
 unfolding rankings put_somewhere refuted prefixes cuts no_ranking_keeps certificate_of certificates
 certificates_named_of_syllables = refl
+
+-- entailment from two conditions, from one, and from none
+pub entailed_by_two : entails 3 ((W ∷ L ∷ E ∷ []) ∷ (E ∷ W ∷ L ∷ []) ∷ []) (W ∷ E ∷ L ∷ []) ≡ true
+unfolding rankings put_somewhere entails
+entailed_by_two = refl
+
+pub not_entailed_by_one : entails 3 ((W ∷ L ∷ E ∷ []) ∷ []) (E ∷ W ∷ L ∷ []) ≡ false
+unfolding rankings put_somewhere entails
+not_entailed_by_one = refl
+
+pub even_entailed_by_none : entails 3 [] (E ∷ E ∷ E ∷ []) ≡ true
+unfolding rankings put_somewhere entails
+even_entailed_by_none = refl
+
+pub loss_not_entailed_by_none : entails 3 [] (L ∷ E ∷ E ∷ []) ≡ false
+unfolding rankings put_somewhere entails
+loss_not_entailed_by_none = refl
+
+pub all_entailed_by_a_contradiction : entails 2 ((W ∷ L ∷ []) ∷ (L ∷ W ∷ []) ∷ []) (L ∷ E ∷ []) ≡ true
+unfolding rankings put_somewhere entails
+all_entailed_by_a_contradiction = refl

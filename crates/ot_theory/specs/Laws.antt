@@ -1,12 +1,13 @@
 -- Laws of the definitions.
-use Rattle.std.specs.Prelude.{◌≡◌, ◌↔◌, ℕ, ◌<◌, Bool, true, not, ◌==◌, List, [], length, slice_index_or, filter, All, Contains}
+use Rattle.std.specs.Prelude.{◌≡◌, ◌↔◌, ℕ, ◌<◌, Bool, true, not, ◌||◌, ◌==◌, List, [], ◌∷◌, map, length, slice_index_or, filter, All, Contains}
 use Rattle.std.specs.List.{list_all}
 use Rattle.ot_theory.specs.declared.Mark.{Mark}
 use Rattle.ot_theory.specs.Rankings.{numbers_below, IsRanking, rankings, optimal}
-use Rattle.ot_theory.specs.Conditions.{condition, keeps, fusion, is_contradictory}
+use Rattle.ot_theory.specs.Conditions.{condition, keeps, fusion, is_contradictory, is_even, exchanged}
 use Rattle.ot_theory.specs.Hierarchies.{satisfies, satisfies_by_least}
 use Rattle.ot_theory.specs.Problems.{classes_of}
 use Rattle.ot_theory.specs.Refutations.{no_ranking_keeps}
+use Rattle.ot_theory.specs.Entailment.{entails}
 
 -- The list of the rankings of n constraints holds each of them, and nothing else.
 abbrev pub HoldsRankings : ℕ → Type 0
@@ -36,3 +37,8 @@ abbrev pub IsOptimalByConditions : ℕ → List ℕ → List (List ℕ) → ℕ 
 IsOptimalByConditions n order profiles a =
     IsRanking n order → All (λ profile. length profile ≡ n) profiles → a < length (classes_of profiles)
     → optimal order (classes_of profiles) a ≡ keeps_over_others order (classes_of profiles) a
+
+-- A set entails a condition exactly where the marks of the condition are all e, or no ranking keeps the set and the condition with W
+-- and L exchanged.
+abbrev pub IsEntailedByNegation : ℕ → List (List Mark) → List Mark → Type 0
+IsEntailedByNegation n set marks = length marks ≡ n → entails n set marks ≡ (list_all is_even marks || no_ranking_keeps n (map exchanged marks ∷ set))

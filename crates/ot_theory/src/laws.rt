@@ -2,7 +2,7 @@
 
 ghost use Rattle.std.specs.Prelude.{ℕ, List};
 ghost use Rattle.ot_theory.specs.declared.Mark.{Mark};
-ghost use Rattle.ot_theory.specs.Laws.{HoldsRankings, IsSatisfiedByLeast, IsInconsistentByFusion, IsOptimalByConditions};
+ghost use Rattle.ot_theory.specs.Laws.{HoldsRankings, IsSatisfiedByLeast, IsEntailedByNegation, IsInconsistentByFusion, IsOptimalByConditions};
 
 /// The list of the rankings of n constraints holds each of them, and nothing else.
 pub fn rankings_are_all()
@@ -22,4 +22,10 @@ pub fn inconsistent_by_fusion()
 /// Of the classes of an input's candidates, one is optimal exactly where the ranking keeps its conditions over all others.
 pub fn optimal_by_conditions()
     ensures { (n : ℕ) (order : List ℕ) (profiles : List (List ℕ)) (a : ℕ) → IsOptimalByConditions n order profiles a }
+{}
+
+/// A set entails a condition exactly where its marks are all e, or no ranking keeps the set and the condition with W and L
+/// exchanged (Prince 2002).
+pub fn entailed_by_negation()
+    ensures { (n : ℕ) (set : List (List Mark)) (marks : List Mark) → IsEntailedByNegation n set marks }
 {}

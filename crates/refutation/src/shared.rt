@@ -1,6 +1,6 @@
 //! Which types may go to another thread: each call below is refused if its type may not.
 
-use crate::{Contradiction, Cut, Language, Prefix, Term, Typology};
+use crate::{Contradiction, Cut, Implication, Language, Prefix, Term, Typology};
 
 fn goes<T: Send>(_value: &T) {}
 
@@ -12,6 +12,12 @@ pub fn contradictions_go(term: &Term, contradiction: &Contradiction) {
     goes(contradiction);
     is_shared(term);
     is_shared(contradiction);
+}
+
+/// An implication may go to another thread, and threads may share it.
+pub fn implications_go(implication: &Implication) {
+    goes(implication);
+    is_shared(implication);
 }
 
 /// A prefix, a language, a cut and a typology may go to another thread, and threads may share them.
