@@ -4,7 +4,7 @@ ghost use Rattle.std.specs.Prelude.{◌≡◌, ◌≤◌, IfOk, IsTrue};
 ghost use Rattle.ot_base.specs.Acceptable.{IsAcceptable};
 ghost use Rattle.ot_base.specs.Tableaus.{problem_of};
 ghost use Rattle.ot_theory.specs.Refutations.{is_contradicted};
-ghost use Rattle.typology_core.specs.declared.search.TheConstants.{PLACE_LIMIT};
+ghost use Rattle.ot_base.specs.declared.limits.TheConstants.{PLACE_LIMIT};
 ghost use Rattle.otsoft_run.specs.Words.{IsWithinLimits};
 ghost use Rattle.otsoft_run.specs.Answers.{IsReport, IsTypologyReport, IsRankReport, is_written, status_by, written_status};
 

@@ -12,9 +12,9 @@ use Rattle.ot_theory.specs.Languages.{choices, languages, classes_at, refuted}
 use Rattle.ot_theory.specs.Refutations.{prefixes, cuts}
 use Rattle.ot_theory.proofs.Strata.{range-any}
 use Rattle.ot_theory.proofs.Optimal.{classes_in, at_drop, drop_more}
-use Rattle.typology_core.specs.Deeds.{children}
+use Rattle.search_deeds.specs.Deeds.{children}
 use Rattle.typology_core.specs.Below.{cuts_below, languages_below}
-use Rattle.typology_core.proofs.Reached.{is_behind_cut, refuted-take, behind-push}
+use Rattle.search_deeds.proofs.Reached.{is_behind_cut, refuted-take, behind-push}
 
 -- what extends the prefix
 abbrev extended : List ℕ → List (List ℕ) → List (List ℕ)

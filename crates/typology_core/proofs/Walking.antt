@@ -29,18 +29,18 @@ use Rattle.refutation.specs.declared.contradiction.Contradiction.{Contradiction}
 use Rattle.refutation.specs.declared.typology.Cut.{Cut}
 use Rattle.refutation.specs.declared.typology.Language.{Language}
 use Rattle.refutation.proofs.TermsOfPrefixes.{certificate-refutes, made-one, terms_of-genuine, terms_of-made, terms_of-push}
-use Rattle.typology_core.specs.Gathered.{AreGenuine, IsCertified, first_refuting}
-use Rattle.typology_core.specs.Indexed.{IsIndex}
-use Rattle.typology_core.specs.Places.{IsIndexOf}
-use Rattle.typology_core.specs.Sieved.{AreMarked}
-use Rattle.typology_core.specs.declared.index.Index.{Index}
+use Rattle.search_deeds.specs.Gathered.{AreGenuine, IsCertified, first_refuting}
+use Rattle.search_deeds.specs.Indexed.{IsIndex}
+use Rattle.search_deeds.specs.Places.{IsIndexOf}
+use Rattle.search_deeds.specs.Sieved.{AreMarked}
+use Rattle.search_deeds.specs.declared.index.Index.{Index}
 use Rattle.typology_core.specs.Below.{cuts_below, languages_below}
 use Rattle.typology_core.specs.Walked.{AreAllBelow, AreMore, IsDone, IsEntered, IsFoundOf, IsPathOf, IsReached, IsSamePath, choices_of, cut_prefixes, prefix_of}
 use Rattle.typology_core.specs.declared.walk.Found.{Found}
 use Rattle.typology_core.specs.declared.walk.Path.{Path}
-use Rattle.typology_core.proofs.Children.{IsPrefix-child, children_below}
-use Rattle.typology_core.proofs.Named.{certified-more, first-new, listed-new, listed-old}
-use Rattle.typology_core.proofs.Reached.{take-append-one, take-whole}
+use Rattle.search_deeds.proofs.Children.{IsPrefix-child, children_below}
+use Rattle.search_deeds.proofs.Named.{certified-more, first-new, listed-new, listed-old}
+use Rattle.search_deeds.proofs.Reached.{take-append-one, take-whole}
 
 -- What a path asks: terms of the problem, with one winner for each input.
 pub path-genuine : (problem : Problem) (path : Path) → IsPathOf problem path → are_terms problem path.asked.terms.items ≡ true

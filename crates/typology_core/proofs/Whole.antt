@@ -6,13 +6,13 @@ use Rattle.ot_theory.specs.Refutations.{cuts}
 use Rattle.ot_base.specs.declared.tableau.ClassId.{ClassId}
 use Rattle.refutation.specs.Prefixes.{class_numbers}
 use Rattle.refutation.specs.Typologies.{certificates_of, cuts_of, found_of}
-use Rattle.typology_core.specs.Gathered.{AreNamed}
+use Rattle.search_deeds.specs.Gathered.{AreNamed}
 use Rattle.typology_core.specs.Walked.{AreAllBelow, IsFoundOf, choices_of, cut_prefixes, prefix_of}
 use Rattle.typology_core.specs.declared.walk.Found.{Found}
 use Rattle.typology_core.specs.declared.walk.Path.{Path}
 use Rattle.typology_core.proofs.Below.{cuts-below, languages-below}
-use Rattle.typology_core.proofs.FromDeeds.{AreCertified, certified}
-use Rattle.typology_core.proofs.Named.{cuts-named}
+use Rattle.search_deeds.proofs.FromDeeds.{AreCertified, certified}
+use Rattle.search_deeds.proofs.Named.{cuts-named}
 
 pub record IsWhole (problem : Problem) (found : Found) : Type 0 where
   pub typology : IsTypology problem (found_of found.languages)

@@ -2,7 +2,7 @@
 use Rattle.std.specs.Prelude.{ℕ, zero, suc, List, [], ◌∷◌, flat_map, if◌then◌else◌}
 use Rattle.ot_theory.specs.Problems.{Problem}
 use Rattle.ot_theory.specs.Languages.{refuted}
-use Rattle.typology_core.specs.Deeds.{children}
+use Rattle.search_deeds.specs.Deeds.{children}
 
 -- with at most n classes more
 unfoldable pub cuts_below : Problem → ℕ → List ℕ → List (List ℕ)

@@ -1,15 +1,3 @@
-pub mod Deeds
-pub mod Gathered
-pub mod Indexed
-pub mod Places
 pub mod Below
 pub mod Walked
 pub mod Made
-pub mod Sieved
-pub mod Machine
-pub mod Seen
-pub mod Kept
-pub mod MachineView
-pub mod Held
-pub mod Standing
-pub mod Findings

@@ -10,8 +10,8 @@ use Rattle.refutation.specs.Typologies.{certificates_of, cuts_of, found_of}
 use Rattle.refutation.specs.declared.typology.Cut.{Cut}
 use Rattle.refutation.specs.declared.typology.Language.{Language}
 use Rattle.typology_core.specs.Below.{cuts_below, languages_below}
-use Rattle.typology_core.specs.Gathered.{AreGenuine, IsCertified, first_refuting}
-use Rattle.typology_core.specs.Places.{IsIndexOf}
+use Rattle.search_deeds.specs.Gathered.{AreGenuine, IsCertified, first_refuting}
+use Rattle.search_deeds.specs.Places.{IsIndexOf}
 use Rattle.typology_core.specs.declared.walk.Found.{Found}
 use Rattle.typology_core.specs.declared.walk.Path.{Path}
 

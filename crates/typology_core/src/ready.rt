@@ -6,10 +6,10 @@ ghost use Rattle.ot_theory.specs.Languages.{classes_at, terms_of_class};
 ghost use Rattle.refutation.specs.Asked.{AreAsked};
 ghost use Rattle.typology_core.specs.Made.{AreMade};
 
-use crate::index::widest;
 use erc_vectors::NoMemory;
 use ot_base::{ClassId, InId};
 use refutation::Asked;
+use search_deeds::widest;
 use std::alloc::Global;
 use violation_profiles::Problem;
 

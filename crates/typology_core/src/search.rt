@@ -4,8 +4,8 @@ ghost use Rattle.std.specs.Prelude.{◌≡◌, ◌≤◌, IfOk, length, map};
 ghost use Rattle.ot_theory.specs.Languages.{IsTypology};
 ghost use Rattle.ot_theory.specs.Refutations.{certificate_named, certificates, cuts};
 ghost use Rattle.refutation.specs.Typologies.{certificates_of, cuts_of, found_of};
-ghost use Rattle.typology_core.specs.Gathered.{AreGenuine, AreNamed};
-ghost use Rattle.typology_core.specs.declared.search.TheConstants.{PLACE_LIMIT};
+ghost use Rattle.search_deeds.specs.Gathered.{AreGenuine, AreNamed};
+ghost use Rattle.ot_base.specs.declared.limits.TheConstants.{PLACE_LIMIT};
 
 use crate::learning::learns;
 use crate::ready::Ready;
@@ -14,9 +14,6 @@ use erc_vectors::NoMemory;
 use refutation::Typology;
 use std::alloc::Global;
 use violation_profiles::Problem;
-
-/// The greatest number of places for contradictions that a search may have.
-pub const PLACE_LIMIT: usize = 4_096;
 
 /// What a search of one worker comes to: the typology, and how often demotion judges a prefix, which stays at 2^64 - 1 once it is
 /// there.

@@ -14,19 +14,17 @@ ghost use Rattle.refutation.specs.Asked.{AreAsked, Begins};
 ghost use Rattle.violation_profiles.specs.WellFormed.{IsPrefix};
 ghost use Rattle.refutation.specs.Prefixes.{class_numbers};
 ghost use Rattle.refutation.specs.Typologies.{certificates_of, cuts_of, found_of};
-ghost use Rattle.typology_core.specs.Gathered.{first_refuting};
+ghost use Rattle.search_deeds.specs.Gathered.{first_refuting};
 ghost use Rattle.typology_core.specs.Made.{AreMade};
-ghost use Rattle.typology_core.specs.Sieved.{HasBits};
+ghost use Rattle.search_deeds.specs.Sieved.{HasBits};
 ghost use Rattle.typology_core.specs.Walked.{AreAllBelow, AreMore, IsDone, IsEntered, IsFoundOf, IsPathOf, IsReached, IsSamePath, IsSettled, IsToOpen, prefix_of};
 
-use crate::certified::place_of;
-use crate::index::Index;
 use crate::ready::Ready;
-use crate::sieve::{bits_of, with_choice};
 use demotion::least_hierarchy;
 use erc_vectors::{Condition, List, NoMemory, Strata};
 use ot_base::{ClassId, INPUT_LIMIT, InId};
 use refutation::{Asked, Contradiction, Cut, Language, Prefix, core_of_conditions};
+use search_deeds::{Index, bits_of, place_of, with_choice};
 use std::alloc::Global;
 use violation_profiles::Problem;
 

@@ -4,4 +4,4 @@ use Rattle.ot_base.specs.Acceptable.{IsRow}
 use Rattle.typology_core.proofs.tests.input.Given as goal
 
 abbrev pub invariant-loop-marks : goal.invariant-loop-marks
-invariant-loop-marks l = (length l.candidates ≡ l.marks-index) × All (IsRow 3) l.candidates
+invariant-loop-marks l = (length l.candidates ≡ l.marks-index) × All (IsRow l.n) l.candidates

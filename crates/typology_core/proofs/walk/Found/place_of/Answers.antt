@@ -8,7 +8,7 @@ use Rattle.refutation.specs.declared.contradiction.Contradiction.{Contradiction}
 use Rattle.refutation.specs.Prefixes.{class_numbers}
 use Rattle.refutation.specs.Terms.{terms_in}
 use Rattle.refutation.specs.Typologies.{certificates_of}
-use Rattle.typology_core.proofs.Sieving.{IsSieve-marks}
+use Rattle.search_deeds.proofs.Sieving.{IsSieve-marks}
 use Rattle.typology_core.proofs.walk.Found.place_of.Goals as goal
 
 pub place_of-requires-clause-refuting : goal.place_of-requires-clause-refuting

@@ -1,0 +1,10 @@
+pub mod Counts
+pub mod Fitting
+pub mod Reached
+pub mod Ascending
+pub mod Children
+pub mod Collected
+pub mod Named
+pub mod FromDeeds
+pub mod Choices
+pub mod Sieving

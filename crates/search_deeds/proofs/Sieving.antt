@@ -1,0 +1,121 @@
+-- The bits of the certificates that refute a prefix are among its own.
+use Rattle.std.proofs.Common.{◌≡◌, ◌≢◌, ℕ, ◌+◌, ◌<◌, ◌≤◌, List, [], ◌∷◌, ◌++◌, true, false, Bool, arith, refl, sym, ◌∙◌, ap, subst, inl, inr, length, set, take, get_or, slice_index}
+use Rattle.std.specs.Prelude.{All, bit_or, slice_index_or}
+use Rattle.std.specs.Int.{bit_at}
+use Rattle.std.proofs.lemmas.Bool.{and_parts, cases_eq, cases_lt, false_from_ne_true}
+use Rattle.std.proofs.lemmas.List.{get_or_append_left, get_or_at, get_or-set_same, get_or-set_other, get_or_past, length_push, length-set, take_more, take_all}
+use Rattle.std.proofs.lemmas.List.Elements.{All-nil, All-cons}
+use Rattle.std.proofs.lemmas.Nat.Bits.{bit_at_or, bit_at-zero, same_from_bits}
+use Rattle.ot_theory.specs.Languages.{Term}
+use Rattle.ot_theory.specs.Refutations.{refutes}
+use Rattle.search_deeds.specs.Sieved.{choice_bit, AreAmong, HasBits, IsMarkOf, AreMarks, AreMarked, IsSieve}
+use Rattle.search_deeds.proofs.Choices.{is_made, made_at, nothing}
+
+-- ---- words among others
+among-more : (few many bit : ℕ) → AreAmong few many → AreAmong few (bit_or many bit)
+among-more few many bit h = record { each = λ c. omega (arith, h.each c, bit_at_or many bit c) }
+
+among-new : (many bit : ℕ) → AreAmong bit (bit_or many bit)
+among-new many bit = record { each = λ c. omega (arith, bit_at_or many bit c) }
+
+among-both : (mark bit bits : ℕ) → AreAmong mark bits → AreAmong bit bits → AreAmong (bit_or mark bit) bits
+among-both mark bit bits h g = record { each = λ c. omega (arith, h.each c, g.each c, bit_at_or mark bit c) }
+
+among-none : (bits : ℕ) → AreAmong 0 bits
+among-none bits = record { each = λ c. omega (arith, bit_at-zero c) }
+
+absorbed : (few many : ℕ) → AreAmong few many → bit_or few many ≡ many
+absorbed few many h = same_from_bits (bit_or few many) many (λ c. omega (arith, h.each c, bit_at_or few many c))
+
+-- ---- the bits of a prefix
+pub HasBits-none : HasBits [] 0
+HasBits-none = record { each = λ i below. absurd (omega arith) }
+
+pub HasBits-push : (prefix : List ℕ) (bits bit i a : ℕ) → length prefix ≡ i → bit ≡ choice_bit i a → HasBits prefix bits → HasBits (prefix ++ a ∷ []) (bit_or bits bit)
+HasBits-push prefix bits bit i a long e h = record {
+  each = λ j below. elim (cases_lt j (length prefix)) [
+    | inl before ↦ rw (get_or_append_left prefix (a ∷ []) 0 j before) (among-more (choice_bit j (slice_index prefix j)) bits bit (h.each j before))
+    | inr behind ↦
+        let same : j ≡ i = omega (arith, length_push prefix a) in
+        rw (same, get_or_at prefix a [] 0 i long, ← e) (among-new bits bit)
+  ];
+}
+
+pub HasBits-more : (prefix : List ℕ) (bits bit i a d : ℕ) → i < length prefix → get_or prefix i d ≡ a → bit ≡ choice_bit i a → HasBits (take i prefix) bits → length (take i prefix) ≡ i → HasBits (take (i + 1) prefix) (bit_or bits bit)
+HasBits-more prefix bits bit i a d below here e h long = rw (take_more prefix i d below, here) (HasBits-push (take i prefix) bits bit i a long e h)
+
+-- ---- the bits that terms ask for
+pub IsMarkOf-none : IsMarkOf [] 0
+IsMarkOf-none = record { least = λ bits all. among-none bits }
+
+pub IsMarkOf-more : (terms : List Term) (mark bit k : ℕ) (term : Term) → k < length terms → get_or terms k nothing ≡ term → bit ≡ choice_bit term.input term.winner → IsMarkOf (take k terms) mark → IsMarkOf (take (k + 1) terms) (bit_or mark bit)
+IsMarkOf-more terms mark bit k term below here e h = record {
+  least = λ bits all.
+      let front : List Term = take k terms in
+      let more : take (k + 1) terms ≡ front ++ term ∷ [] = take_more terms k nothing below ∙ ap (λ (t : Term). front ++ t ∷ []) here in
+      let those : All (λ t. AreAmong (choice_bit t.input t.winner) bits) (front ++ term ∷ []) = rw more at all in
+      among-both mark bit bits
+      (h.least bits (λ j d b. rw (get_or_append_left front (term ∷ []) d j b) at (those j d (omega (arith, length_push front term)))))
+      (rw (get_or_at front term [] nothing (length front) refl, ← e) at (those (length front) nothing (omega (arith, length_push front term))));
+}
+
+made-bits : (prefix : List ℕ) (bits : ℕ) (terms : List Term) → HasBits prefix bits → refutes terms prefix ≡ true → All (λ term. AreAmong (choice_bit term.input term.winner) bits) terms
+made-bits prefix bits [] has h = All-nil (λ term. AreAmong (choice_bit term.input term.winner) bits)
+made-bits prefix bits (t ∷ terms) has h =
+    let parts = and_parts (is_made prefix t) (refutes terms prefix) h in
+    let at = made_at prefix t.input t.winner parts.0 in
+    All-cons (λ term. AreAmong (choice_bit term.input term.winner) bits) t terms
+    (subst (λ (a : ℕ). AreAmong (choice_bit t.input a) bits) at.1 (has.each t.input at.0)) (made-bits prefix bits terms has parts.1)
+
+-- ---- the words beside the places of certificates
+pub IsSieve-marks : (certificates : List (List Term)) (prefix places marks : List ℕ) (bits : ℕ) → AreMarks certificates places marks → HasBits prefix bits → IsSieve certificates prefix places marks bits
+IsSieve-marks certificates prefix places marks bits h has = record {
+  long = h.long;
+  passed = λ k below made. absorbed (slice_index marks k) bits ((h.each k below).least bits (made-bits prefix bits (slice_index_or certificates (slice_index places k) []) has made));
+}
+
+-- one that lacks a bit does not refute the prefix
+pub sorted-out : (refuting : Bool) (mark bits : ℕ) → (refuting ≡ true → bit_or mark bits ≡ bits) → bit_or mark bits ≢ bits → refuting ≡ false
+sorted-out refuting mark bits passed lacks = false_from_ne_true refuting (λ h. lacks (passed h))
+
+pub AreMarks-none : (certificates : List (List Term)) → AreMarks certificates [] []
+AreMarks-none certificates = record { long = refl; each = λ k below. absurd (omega arith) }
+
+pub AreMarked-none : (places marks : List (List ℕ)) → length marks ≡ length places → ((b : ℕ) → slice_index_or places b [] ≡ []) → ((b : ℕ) → slice_index_or marks b [] ≡ []) → AreMarked [] places marks
+AreMarked-none places marks long none unmarked = record { long = long; each = λ b. rw (none b, unmarked b) (AreMarks-none []) }
+
+marks-more : (certificates : List (List Term)) (terms : List Term) (places marks : List ℕ) → All (λ place. place < length certificates) places → AreMarks certificates places marks → AreMarks (certificates ++ terms ∷ []) places marks
+marks-more certificates terms places marks within h = record {
+  long = h.long;
+  each = λ k below. rw (get_or_append_left certificates (terms ∷ []) [] (slice_index places k) (within k 0 below)) (h.each k below);
+}
+
+marks-push : (certificates : List (List Term)) (terms : List Term) (places marks : List ℕ) (mark : ℕ) → IsMarkOf terms mark → All (λ place. place < length certificates) places → AreMarks certificates places marks
+    → AreMarks (certificates ++ terms ∷ []) (places ++ length certificates ∷ []) (marks ++ mark ∷ [])
+marks-push certificates terms places marks mark its within h = record {
+  long = omega (arith, h.long, length_push places (length certificates), length_push marks mark);
+  each = λ k below. elim (cases_lt k (length places)) [
+    | inl before ↦ rw (get_or_append_left places (length certificates ∷ []) 0 k before, get_or_append_left marks (mark ∷ []) 0 k (omega (arith, h.long)), get_or_append_left certificates (terms ∷ []) [] (slice_index places k) (within k 0 before)) (h.each k before)
+    | inr behind ↦
+        let same : k ≡ length places = omega (arith, length_push places (length certificates)) in
+        rw (same, get_or_at places (length certificates) [] 0 (length places) refl, get_or_at marks mark [] 0 (length places) h.long, get_or_at certificates terms [] [] (length certificates) refl) its
+  ];
+}
+
+pub AreMarked-push : (certificates : List (List Term)) (terms : List Term) (places more_places marks more_marks : List (List ℕ)) (b mark : ℕ) → IsMarkOf terms mark → ((c : ℕ) → All (λ place. place < length certificates) (slice_index_or places c []))
+    → b < length places → more_places ≡ set places b (slice_index_or places b [] ++ length certificates ∷ []) → more_marks ≡ set marks b (slice_index_or marks b [] ++ mark ∷ []) → AreMarked certificates places marks → AreMarked (certificates ++ terms ∷ []) more_places more_marks
+AreMarked-push certificates terms places more_places marks more_marks b mark its within below e f h =
+    let place_list : List ℕ = slice_index_or places b [] ++ length certificates ∷ [] in
+    let mark_list : List ℕ = slice_index_or marks b [] ++ mark ∷ [] in
+    let places_here : slice_index_or more_places b [] ≡ place_list = rw e (get_or-set_same places b place_list [] below) in
+    let marks_here : slice_index_or more_marks b [] ≡ mark_list = rw f (get_or-set_same marks b mark_list [] (omega (arith, h.long))) in
+    record {
+      long = rw (e, f, length-set places b place_list, length-set marks b mark_list) h.long;
+      each = λ c. elim (cases_eq c b) [
+        | inl same ↦ rw (same, places_here, marks_here) (marks-push certificates terms (slice_index_or places b []) (slice_index_or marks b []) mark its (within b) (h.each b))
+        | inr other ↦
+            let place_others : slice_index_or more_places c [] ≡ slice_index_or places c [] = rw e (get_or-set_other places b c place_list [] other) in
+            let mark_others : slice_index_or more_marks c [] ≡ slice_index_or marks c [] = rw f (get_or-set_other marks b c mark_list [] other) in
+            rw (place_others, mark_others) (marks-more certificates terms (slice_index_or places c []) (slice_index_or marks c []) (within c) (h.each c))
+      ];
+    }

@@ -1,0 +1,5 @@
+pub mod Deeds
+pub mod Gathered
+pub mod Indexed
+pub mod Sieved
+pub mod Places

@@ -1,0 +1,123 @@
+//! The places of certificates by the last choice that each of them asks for, so that few are looked at for a prefix.
+
+ghost use Rattle.std.specs.Prelude.{◌≡◌, ◌<◌, ◌≤◌, ℕ, List, [], ◌∷◌, ◌++◌, length, take, true, false, IfOk, OnOk, All};
+ghost use Rattle.ot_base.specs.declared.limits.TheConstants.{CANDIDATE_LIMIT};
+ghost use Rattle.ot_theory.specs.Languages as theory;
+ghost use Rattle.ot_theory.specs.Languages.{classes_at, refuted};
+ghost use Rattle.ot_theory.specs.Refutations.{is_contradiction};
+ghost use Rattle.violation_profiles.specs.WellFormed.{IsPrefix};
+ghost use Rattle.refutation.specs.Prefixes.{class_numbers};
+ghost use Rattle.refutation.specs.Terms.{terms_in};
+ghost use Rattle.search_deeds.specs.Indexed.{is_last, HoldsRefuting, IsIndex, IsLaidOut};
+ghost use Rattle.search_deeds.specs.Sieved.{AreMarked, AreMarks};
+
+use crate::sieve::mark_of;
+use erc_vectors::{List, NoMemory};
+use ot_base::{ClassId, INPUT_LIMIT, InId};
+use refutation::Term;
+use std::alloc::Global;
+use violation_profiles::Problem;
+
+/// For each input and class the places of the certificates that give no later input a winner, and this input this class.
+#[derive(Debug, Drop)]
+pub struct Index {
+    /// The greatest number of classes of an input.
+    pub widest: usize,
+    /// The places, in ascending order, of class a of input i at i * widest + a.
+    pub places: Vec<List<usize>>,
+    /// Beside each place the bits of the choices that the certificate asks for.
+    pub marks: Vec<List<u64>>,
+}
+
+impl Index {
+    /// The index of no certificates.
+    pub fn new(alloc: Global, p: &Problem) -> Result<Index, NoMemory>
+        ensures places { IfOk result (λ index. IsIndex p.now [] index.widest index.places.items) }
+        ensures marks { IfOk result (λ index. AreMarked [] index.places.items index.marks.items) }
+    {
+        let widest = widest(p);
+        let mut places = Vec::new(alloc);
+        let mut marks = Vec::new(alloc);
+        for _ in 0..p.inputs() * widest {
+            if places.push(List::new(alloc)).is_err() {
+                return Err(NoMemory);
+            }
+            if marks.push(List::new(alloc)).is_err() {
+                return Err(NoMemory);
+            }
+        }
+        Ok(Index {
+            widest,
+            places,
+            marks,
+        })
+    }
+
+    /// The places of the certificates that give the last input of a prefix its last class as its winner, and no later one any,
+    /// and beside them the bits that each of these asks for. Where no shorter front of the prefix is refuted, those that refute
+    /// it are among them.
+    pub fn bucket_for(&self, p: &Problem, prefix: &[ClassId]) -> (&[usize], &[u64])
+        requires prefix { IsPrefix p.now (class_numbers prefix.now) }
+        requires laid_out { IsLaidOut p.now self.now.widest self.now.places.items }
+        requires as_long { length self.now.marks.items ≡ length self.now.places.items }
+        ensures refuting { (certificates : List (List theory.Term)) → IsIndex p.now certificates self.now.widest self.now.places.items → All (λ terms. is_contradiction p.now terms ≡ true) certificates
+            → ((k : ℕ) → k < length prefix.now → refuted p.now (take k (class_numbers prefix.now)) ≡ false) → HoldsRefuting certificates (class_numbers prefix.now) result.0.now }
+        ensures marks { (certificates : List (List theory.Term)) → AreMarked certificates self.now.places.items self.now.marks.items → AreMarks certificates result.0.now result.1.now }
+    {
+        prove!(prefix.len() <= p.inputs());
+        if prefix.is_empty() {
+            return (&[], &[]);
+        }
+        let input = prefix.len() - 1;
+        let bucket = input * self.widest + prefix[input].0 as usize;
+        (
+            self.places[bucket].as_slice(),
+            self.marks[bucket].as_slice(),
+        )
+    }
+
+    /// Adds a certificate, which has these terms, with its place behind those of the others.
+    pub fn add(&mut self, p: &Problem, terms: &[Term], place: usize) -> Result<(), NoMemory>
+        requires genuine { is_contradiction p.now (terms_in terms.now) ≡ true }
+        requires laid_out { IsLaidOut p.now self.old.widest self.old.places.items }
+        requires as_long { length self.old.marks.items ≡ length self.old.places.items }
+        ensures places { OnOk result ((certificates : List (List theory.Term)) → length certificates ≡ place → IsIndex p.now certificates self.old.widest self.old.places.items
+            → IsIndex p.now (certificates ++ terms_in terms.now ∷ []) self.new.widest self.new.places.items) }
+        ensures marks { OnOk result ((certificates : List (List theory.Term)) → length certificates ≡ place → IsIndex p.now certificates self.old.widest self.old.places.items → AreMarked certificates self.old.places.items self.old.marks.items
+            → AreMarked (certificates ++ terms_in terms.now ∷ []) self.new.places.items self.new.marks.items) }
+    {
+        prove!(p.inputs() <= INPUT_LIMIT);
+        let (input, winner) = last_choice(terms);
+        let bucket = input * self.widest + winner;
+        self.places[bucket].push(place)?;
+        self.marks[bucket].push(mark_of(terms))
+    }
+}
+
+/// The greatest number of classes of an input.
+pub fn widest(p: &Problem) -> usize
+    ensures wide { (i : ℕ) → i < length p.now.inputs → length (classes_at p.now i) ≤ result }
+    ensures small { result ≤ CANDIDATE_LIMIT }
+{
+    let mut widest = 0;
+    for i in 0..p.inputs() {
+        widest = widest.max(p.classes(InId(i as u32)));
+    }
+    widest
+}
+
+/// The last input to which some terms give a winner, and that winner.
+fn last_choice(terms: &[Term]) -> (usize, usize)
+    requires { 0 < length terms.now }
+    ensures { is_last (terms_in terms.now) result.0 result.1 ≡ true }
+{
+    let mut input = 0;
+    let mut winner = 0;
+    for term in terms {
+        if term.input.0 as usize >= input {
+            input = term.input.0 as usize;
+            winner = term.winner.0 as usize;
+        }
+    }
+    (input, winner)
+}

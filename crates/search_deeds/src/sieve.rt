@@ -1,0 +1,49 @@
+//! Words of bits that sort out most certificates that do not refute a prefix.
+//!
+//! Each choice of a class for an input has one of 64 bits. A certificate that refutes a prefix asks for none but choices of the
+//! prefix, so its bits are among those of the prefix; most of the others lack one, and are passed over by a look at one word
+//! (the filter of Bloom, Space/Time Trade-offs in Hash Coding with Allowable Errors, 1970).
+
+ghost use Rattle.std.specs.Prelude.{◌≡◌, ℕ, List, ◌∷◌, [], ◌++◌, length};
+ghost use Rattle.refutation.specs.Prefixes.{class_numbers};
+ghost use Rattle.refutation.specs.Terms.{terms_in};
+ghost use Rattle.search_deeds.specs.Sieved.{choice_bit, HasBits, IsMarkOf};
+
+use ot_base::{ClassId, InId};
+use refutation::Term;
+
+/// The bits of a prefix and a class of the next input, from those of the prefix.
+pub fn with_choice(bits: u64, input: InId, class: ClassId) -> u64
+    ensures { (prefix : List ℕ) → length prefix ≡ input.0 → HasBits prefix bits → HasBits (prefix ++ class.0 ∷ []) result }
+{
+    bits | bit_of(input.0 as usize, class)
+}
+
+/// The bits of the choices of a prefix.
+pub fn bits_of(prefix: &[ClassId]) -> u64
+    ensures { HasBits (class_numbers prefix.now) result }
+{
+    let mut bits = 0;
+    for (i, class) in prefix.iter().enumerate() {
+        bits |= bit_of(i, *class);
+    }
+    bits
+}
+
+/// The bits of the choices that some terms ask for.
+pub(crate) fn mark_of(terms: &[Term]) -> u64
+    ensures { IsMarkOf (terms_in terms.now) result }
+{
+    let mut mark = 0;
+    for term in terms {
+        mark |= bit_of(term.input.0 as usize, term.winner);
+    }
+    mark
+}
+
+/// The bit of a class of an input.
+fn bit_of(input: usize, class: ClassId) -> u64
+    ensures { result ≡ choice_bit input class.0 }
+{
+    1 << ((input % 64 * 11 + class.0 as usize) % 64)
+}

@@ -1,0 +1,7 @@
+pub mod Machine
+pub mod Seen
+pub mod Kept
+pub mod MachineView
+pub mod Held
+pub mod Standing
+pub mod Findings

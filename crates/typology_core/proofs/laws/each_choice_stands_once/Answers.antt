@@ -1,6 +1,0 @@
-use Rattle.typology_core.proofs.Leading.{reached-kept}
-use Rattle.typology_core.proofs.Standing.{stands-once}
-use Rattle.typology_core.proofs.laws.each_choice_stands_once.Goals as goal
-
-pub returns : goal.returns
-returns c = λ problem workers places steps state choice r h. stands-once problem state choice (reached-kept problem workers places steps state r) h

@@ -1,6 +1,0 @@
--- as many of them so far
-use Rattle.std.proofs.Common.{◌≡◌, [], replicate}
-use Rattle.typology_core.proofs.machine.no_deeds.Given as goal
-
-abbrev pub invariant-loop : goal.invariant-loop
-invariant-loop l = l.deeds.items ≡ replicate l.counter []

@@ -1,6 +1,0 @@
--- the problem stays
-use Rattle.std.proofs.Common.{◌≡◌}
-use Rattle.typology_core.proofs.machine_tests.take_turns.Given as goal
-
-abbrev pub invariant-loop : goal.invariant-loop
-invariant-loop l = l.machine.problem ≡ l.initial.machine.problem

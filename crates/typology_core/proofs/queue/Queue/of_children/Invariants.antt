@@ -1,7 +1,0 @@
-use Rattle.std.proofs.Common.{◌≡◌}
-use Rattle.typology_core.proofs.Children.{children_below}
-use Rattle.typology_core.proofs.queue.Queue.of_children.Given as goal
-
--- the children of the classes so far
-abbrev pub invariant-loop-a : goal.invariant-loop-a
-invariant-loop-a l = l.queue ≡ children_below l.prefix l.a
