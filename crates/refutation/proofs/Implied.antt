@@ -1,5 +1,5 @@
 -- Conditions that others imply, by their masks; and terms with one term more.
-use Rattle.std.proofs.Common.{◌≡◌, ℕ, ◌+◌, ◌≤◌, List, [], ◌∷◌, ◌++◌, Bool, true, false, ◌==◌, ◌^◌, ◌<◌, arith, refl, sym, ◌∙◌, ap, cond, max, min, map, length, take, get_or, append_assoc, inl, inr}
+use Rattle.std.proofs.Common.{◌≡◌, ℕ, ◌+◌, ◌≤◌, List, [], ◌∷◌, ◌++◌, Bool, true, false, ◌==◌, ◌<◌, arith, refl, sym, ◌∙◌, ap, cond, max, min, map, length, take, get_or, append_assoc, inl, inr}
 use Rattle.std.specs.Prelude.{bit_or}
 use Rattle.std.specs.Int.{bit_at}
 use Rattle.std.proofs.lemmas.Bool.Decides.{eqb_tells}
@@ -11,12 +11,12 @@ use Rattle.ot_theory.specs.Conditions.{is_win, is_loss, mark_at}
 use Rattle.ot_theory.specs.Problems.{Problem}
 use Rattle.ot_theory.specs.Languages as theory
 use Rattle.ot_theory.specs.Languages.{condition_of}
-use Rattle.ot_theory.specs.Reductions.{IsStronger, IsImplied, IsReduced}
+use Rattle.ot_theory.specs.Reductions.{IsStronger, IsImplied}
 use Rattle.ot_theory.proofs.Terms.{term}
 use Rattle.ot_theory.proofs.WinnerTerms.{terms_below, terms_below-other, terms_below-same}
 use Rattle.ot_theory.proofs.Redundant.{IsImplied-lossless, IsReduced-append, IsReduced-push, IsReduced-same, IsReduced-trans, IsReduced-without}
 use Rattle.erc_vectors.specs.Masks.{IsMask}
-use Rattle.erc_vectors.proofs.Bits.{bit_true, bit_false}
+use Rattle.erc_vectors.proofs.Bits.{bit_false}
 use Rattle.refutation.specs.declared.term.Term.{Term}
 use Rattle.refutation.specs.Terms.{term_of, terms_in}
 use Rattle.refutation.specs.Asked.{AreAsked, Begins}

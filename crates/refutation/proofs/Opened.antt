@@ -2,8 +2,7 @@
 use Rattle.std.proofs.Common.{◌≡◌, ℕ, zero, suc, ◌+◌, ◌<◌, List, [], ◌∷◌, ◌++◌, Bool, true, false, arith, refl, sym, ◌∙◌, ap, cond, length, map, take, get_or}
 use Rattle.std.specs.Prelude.{All, filter}
 use Rattle.std.specs.List.{list_all}
-use Rattle.std.proofs.lemmas.Bool.{and_parts, and_from, cases_Bool}
-use Rattle.std.proofs.lemmas.List.{length-map}
+use Rattle.std.proofs.lemmas.Bool.{and_parts, and_from}
 use Rattle.std.proofs.lemmas.List.Elements.{All-nil, All-cons, All-head, All-tail}
 use Rattle.std.proofs.lemmas.List.Folds.{list_all-map}
 use Rattle.ot_theory.specs.declared.Mark.{Mark}
@@ -14,7 +13,6 @@ use Rattle.ot_theory.specs.Languages.{condition_of}
 use Rattle.ot_theory.specs.Refutations.{agree, certificate_of, is_term, no_ranking_keeps, one_winner_each}
 use Rattle.ot_theory.proofs.Certificates.{all-weaker}
 use Rattle.ot_theory.proofs.OpenCore.{certificate-open, opens}
-use Rattle.ot_theory.proofs.Sets.{is_hopeless}
 use Rattle.demotion.specs.Outcomes.{AreFlags}
 use Rattle.refutation.specs.declared.term.Term.{Term}
 use Rattle.refutation.specs.Asked.{AreKept, flagged}

@@ -72,8 +72,10 @@ impl Asked {
         ensures terms { OnOk result (Begins self.old.terms.items self.new.terms.items) }
         ensures conditions { OnOk result (Begins self.old.conditions.items self.new.conditions.items) }
     {
-        push_terms(&mut self.terms, other.terms.as_slice())?;
-        push_conditions(&mut self.conditions, other.conditions.as_slice())
+        self.terms.extend_from_slice(other.terms.as_slice())?;
+        self.conditions
+            .extend_from_slice(other.conditions.as_slice())?;
+        Ok(())
     }
 
     /// Adds the terms of another list behind these, without those whose conditions these imply.
@@ -87,8 +89,7 @@ impl Asked {
         for k in 0..other.terms.len().min(other.conditions.len()) {
             let condition = other.conditions[k];
             if !is_implied(self.conditions.as_slice(), 0, kept, &condition) {
-                push_term(&mut self.terms, other.terms[k])?;
-                push_condition(&mut self.conditions, condition)?;
+                self.keep(other.terms[k], condition)?;
             }
         }
         Ok(())
@@ -111,8 +112,8 @@ impl Asked {
         ) {
             return Ok(());
         }
-        push_term(&mut self.terms, term)?;
-        push_condition(&mut self.conditions, condition)
+        self.keep(term, condition)?;
+        Ok(())
     }
 
     /// Adds a term and its condition.
@@ -120,8 +121,9 @@ impl Asked {
         ensures terms { OnOk result (self.new.terms.items ≡ self.old.terms.items ++ term ∷ []) }
         ensures conditions { OnOk result (self.new.conditions.items ≡ self.old.conditions.items ++ condition ∷ []) }
     {
-        push_term(&mut self.terms, term)?;
-        push_condition(&mut self.conditions, condition)
+        self.terms.push(term)?;
+        self.conditions.push(condition)?;
+        Ok(())
     }
 
     /// Drops the terms behind the first ones.
@@ -132,42 +134,6 @@ impl Asked {
         self.terms.truncate(kept);
         self.conditions.truncate(kept);
     }
-}
-
-fn push_term(terms: &mut Vec<Term>, term: Term) -> Result<(), NoMemory>
-    ensures { OnOk result (terms.new.items ≡ terms.old.items ++ term ∷ []) }
-{
-    if terms.push(term).is_err() {
-        return Err(NoMemory);
-    }
-    Ok(())
-}
-
-fn push_terms(terms: &mut Vec<Term>, more: &[Term]) -> Result<(), NoMemory>
-    ensures { OnOk result (terms.new.items ≡ terms.old.items ++ more.now) }
-{
-    match terms.extend_from_slice(more) {
-        Ok(()) => Ok(()),
-        Err(_) => Err(NoMemory),
-    }
-}
-
-fn push_conditions(conditions: &mut Vec<Condition>, more: &[Condition]) -> Result<(), NoMemory>
-    ensures { OnOk result (conditions.new.items ≡ conditions.old.items ++ more.now) }
-{
-    match conditions.extend_from_slice(more) {
-        Ok(()) => Ok(()),
-        Err(_) => Err(NoMemory),
-    }
-}
-
-fn push_condition(conditions: &mut Vec<Condition>, condition: Condition) -> Result<(), NoMemory>
-    ensures { OnOk result (conditions.new.items ≡ conditions.old.items ++ condition ∷ []) }
-{
-    if conditions.push(condition).is_err() {
-        return Err(NoMemory);
-    }
-    Ok(())
 }
 
 /// Whether a condition has no L, or is weaker than one of some others between these places.

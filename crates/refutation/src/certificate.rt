@@ -103,9 +103,7 @@ fn kept_terms(
     let mut conditions = conditions;
     let mut kept = Vec::new(alloc);
     while let Some(last) = move_last_needed(n, kept.len(), &mut conditions) {
-        if kept.insert(0, terms[last]).is_err() {
-            return Err(NoMemory);
-        }
+        kept.insert(0, terms[last])?;
     }
     Ok(kept)
 }

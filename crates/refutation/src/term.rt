@@ -37,9 +37,7 @@ pub fn conditions_of(alloc: Global, p: &Problem, terms: &[Term]) -> Result<Vec<C
 {
     let mut conditions = Vec::new(alloc);
     for term in terms {
-        if conditions.push(condition_of(p, term)).is_err() {
-            return Err(NoMemory);
-        }
+        conditions.push(condition_of(p, term))?;
     }
     Ok(conditions)
 }

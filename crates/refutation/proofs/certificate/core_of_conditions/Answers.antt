@@ -1,6 +1,5 @@
-use Rattle.std.proofs.Common.{◌≡◌, ◌∙◌, sym, ap, [], length, map, arith}
+use Rattle.std.proofs.Common.{◌∙◌, sym, ap, length}
 use Rattle.std.proofs.lemmas.List.{length-map}
-use Rattle.std.proofs.lemmas.Result.{IfOk-weaker}
 use Rattle.ot_theory.specs.Demotion.{is_open}
 use Rattle.ot_theory.specs.Languages.{condition_of}
 use Rattle.ot_theory.specs.Refutations.{certificate_of}

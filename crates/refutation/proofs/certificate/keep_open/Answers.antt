@@ -1,4 +1,4 @@
-use Rattle.std.proofs.Common.{◌∙◌, sym, ap, ◌++◌, ◌∷◌, [], arith, get_or, List}
+use Rattle.std.proofs.Common.{◌∙◌, sym, ap, ◌++◌, ◌∷◌, [], arith, get_or}
 use Rattle.refutation.proofs.Implied.{no_term}
 use Rattle.refutation.proofs.Opened.{flagged-more, flagged-same}
 use Rattle.refutation.proofs.certificate.keep_open.Goals as goal

@@ -14,7 +14,7 @@ move_last_needed-requires-clause-hopeless c =
 pub loop-last-preserved : goal.loop-last-preserved
 loop-last-preserved c =
     AreFront-more c.args.p.now c.args.terms.now c.loop-last.kept.items c.insert.new.self.items c.loop-last.conditions.items c.move_last_needed.new.conditions.items c.in-Some.last c.constraints-n.result c.len.result _
-    c.constraints-n.ensures.value (c.len.ensures ∙ c.loop-last.kept.ok.0) c.loop-last.invariant c.in-Some.ensures.short c.in-Some.ensures.some c.in-Some.ensures.none c.in-Some.ensures.moved (rw c.if-is_err.ensures.negation at c.insert.ensures.items)
+    c.constraints-n.ensures.value (c.len.ensures ∙ c.loop-last.kept.ok.0) c.loop-last.invariant c.in-Some.ensures.short c.in-Some.ensures.some c.in-Some.ensures.none c.in-Some.ensures.moved c.in_ok-insert.ensures.items
 
 pub returns : goal.returns
 returns c =

@@ -1,7 +1,6 @@
 -- A class that is not the winner adds a term.
-use Rattle.std.proofs.Common.{◌∙◌, ◌++◌, refl, sym, ap, [], ◌∷◌, List}
+use Rattle.std.proofs.Common.{◌++◌, refl, sym}
 use Rattle.std.proofs.lemmas.Bool.{not-true, not-false}
-use Rattle.ot_theory.specs.Languages as theory
 use Rattle.ot_theory.proofs.Terms.{term}
 use Rattle.ot_theory.proofs.WinnerTerms.{terms_below}
 use Rattle.refutation.proofs.Implied.{asked-other, asked-same, Begins-trans}

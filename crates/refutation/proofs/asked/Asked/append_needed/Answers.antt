@@ -1,8 +1,8 @@
-use Rattle.std.proofs.Common.{◌∙◌, ap, ◌++◌, ◌<◌, ◌≤◌, arith, length, min, get_or}
+use Rattle.std.proofs.Common.{◌<◌, arith, length}
 use Rattle.std.proofs.lemmas.List.{get_or_read}
 use Rattle.refutation.proofs.Implied.{asked-all, asked-needed, asked-spared, no_term, Begins-push}
 use Rattle.refutation.proofs.asked.Asked.append_needed.Goals as goal
-use Rattle.refutation.proofs.asked.Asked.append_needed.Goals.{then-not-is_implied+in_ok-push_term+in_ok-push_condition, else-not-is_implied}
+use Rattle.refutation.proofs.asked.Asked.append_needed.Goals.{then-not-is_implied+in_ok-keep, else-not-is_implied}
 
 pub loop-k-preserved : goal.loop-k-preserved
 loop-k-preserved c =
@@ -12,14 +12,14 @@ loop-k-preserved c =
     let below : k < length those = omega (arith, c.loop-k-test.true, c.min-k-end.ensures, c.len.ensures, c.len-2.ensures, c.args.other.now.conditions.ok.0) in
     let here = get_or_read those k c.index.result.now below c.index.ensures c.index.result.now in
     elim c.if-not-is_implied.branch [
-      | then-not-is_implied+in_ok-push_term+in_ok-push_condition w ↦
+      | then-not-is_implied+in_ok-keep w ↦
           let within : k < length these = omega (arith, c.loop-k-test.true, c.min-k-end.ensures, c.len.ensures, c.len-2.ensures, c.args.other.now.terms.ok.0) in
           let term = get_or_read these k w.index-then-not-is_implied.result.now within w.index-then-not-is_implied.ensures w.index-then-not-is_implied.result.now in
           rw w.self-is (record {
-            asked = λ problem whole others asked other. asked-needed problem whole others these c.loop-k.self.terms.items w.push_term.new.terms.items those c.loop-k.self.conditions.items w.push_condition.new.conditions.items k w.index-then-not-is_implied.result.now c.index.result.now
-                other below term here w.in_ok-push_term.ensures w.in_ok-push_condition.ensures (c.loop-k.invariant.asked problem whole others asked other);
-            terms = Begins-push _ _ _ _ c.loop-k.invariant.terms w.in_ok-push_term.ensures;
-            conditions = Begins-push _ _ _ _ c.loop-k.invariant.conditions w.in_ok-push_condition.ensures;
+            asked = λ problem whole others asked other. asked-needed problem whole others these c.loop-k.self.terms.items w.keep.new.self.terms.items those c.loop-k.self.conditions.items w.keep.new.self.conditions.items k w.index-then-not-is_implied.result.now c.index.result.now
+                other below term here w.in_ok-keep.ensures.terms w.in_ok-keep.ensures.conditions (c.loop-k.invariant.asked problem whole others asked other);
+            terms = Begins-push _ _ _ _ c.loop-k.invariant.terms w.in_ok-keep.ensures.terms;
+            conditions = Begins-push _ _ _ _ c.loop-k.invariant.conditions w.in_ok-keep.ensures.conditions;
           })
       | else-not-is_implied w ↦ rw w.self-is (record {
         asked = λ problem whole others asked other. asked-spared problem whole others these c.loop-k.self.terms.items those c.loop-k.self.conditions.items k no_term c.index.result.now
