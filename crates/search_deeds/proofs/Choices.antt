@@ -1,21 +1,19 @@
 -- The last choice that the terms of a contradiction ask for; and that the index holds the places of all that refute a prefix.
-use Rattle.std.proofs.Common.{◌≡◌, ◌≢◌, ◌⊎◌, ℕ, zero, suc, ◌+◌, ◌-◌, ◌*◌, ◌<◌, ◌≤◌, List, [], ◌∷◌, ◌++◌, Bool, true, false, not, ◌&&◌, ◌||◌, ◌==◌, Some, None, arith, refl, sym, ◌∙◌, ap, subst, inl, inr, cond, length, take, set, get_or, slice_index, length-append}
+use Rattle.std.proofs.Common.{◌≡◌, ◌≢◌, ◌⊎◌, ℕ, zero, suc, ◌+◌, ◌*◌, ◌<◌, ◌≤◌, List, [], ◌∷◌, ◌++◌, Bool, true, false, not, ◌&&◌, ◌||◌, ◌==◌, arith, refl, sym, ◌∙◌, ap, inl, inr, length, take, set, get_or, slice_index}
 use Rattle.std.specs.Prelude.{All, Contains, nat_le, nat_lt, slice_get, slice_index_or}
 use Rattle.std.specs.List.{list_all, list_any}
 use Rattle.std.specs.Option.{option_map_or}
-use Rattle.std.proofs.lemmas.Bool.{and_parts, and_from, cases_Bool, cases_lt, cases_eq, eq-eqb, ne_eqb, le-leb, leb-true, eqb-true, not-true, or_cases, or_right, ltb-true}
-use Rattle.std.proofs.lemmas.Bool.Decides.{eqb_tells, leb_tells}
+use Rattle.std.proofs.lemmas.Bool.{and_parts, and_from, cases_Bool, cases_lt, cases_eq, eq-eqb, le-leb, leb-true, eqb-true, not-true, or_cases, or_right, ltb-true}
 use Rattle.std.proofs.lemmas.List.{get_or-take, get_or-set_same, get_or-set_other, get_or_past, get_or_append_left, get_or_at, length-take-le, length_push, length-set, get_or_default, take_more, take_all, get_or-map}
 use Rattle.std.proofs.lemmas.List.Elements.{All-nil, All-head, All-tail, All-weaker, All-push, Contains-push, Contains-append_left}
 use Rattle.std.proofs.lemmas.List.Sums.{AllPass-from_list_all, position_or_len_is}
 use Rattle.std.proofs.lemmas.List.Folds.{list_any_more, list_any_kept}
 use Rattle.ot_theory.proofs.Parts.{found}
-use Rattle.std.proofs.lemmas.Nat.{same_from_place, mul-add-lt}
+use Rattle.std.proofs.lemmas.Nat.{mul-add-lt}
 use Rattle.ot_theory.specs.Problems.{Problem}
-use Rattle.ot_theory.specs.Languages.{Term, classes_at, refuted, condition_of}
-use Rattle.ot_theory.specs.Conditions.{fusion, is_contradictory}
+use Rattle.ot_theory.specs.Languages.{Term, classes_at, refuted}
 use Rattle.ot_theory.specs.Refutations.{agree, is_contradiction, is_term, one_winner_each, refutes}
-use Rattle.ot_theory.proofs.Certificates.{contradiction-refutes, contradiction-tried}
+use Rattle.ot_theory.proofs.Certificates.{contradiction-refutes}
 use Rattle.violation_profiles.specs.WellFormed.{IsPrefix, IsWellFormed}
 use Rattle.violation_profiles.proofs.Inputs.{AllFit-prefix}
 use Rattle.refutation.specs.declared.term.Term as rust

@@ -47,9 +47,7 @@ fn add_language(alloc: Global, languages: &mut Vec<Language>, deed: &Deed) -> Re
             choice: deed.prefix.copy()?,
             strata: *strata,
         };
-        if languages.push(language).is_err() {
-            return Err(NoMemory);
-        }
+        languages.push(language)?;
     }
     Ok(())
 }
@@ -84,9 +82,7 @@ fn add_cut_prefix(alloc: Global, prefixes: &mut Vec<Prefix>, deed: &Deed) -> Res
     ensures { OnOk result (prefixes.new.items ≡ prefixes.old.items ++ cut_by deed.now.prefix (fate_of deed.now.fate)) }
 {
     if let Fate::Cut(_) = &deed.fate {
-        if prefixes.push(deed.prefix.copy()?).is_err() {
-            return Err(NoMemory);
-        }
+        prefixes.push(deed.prefix.copy()?)?;
     }
     Ok(())
 }

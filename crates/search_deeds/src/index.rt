@@ -39,12 +39,8 @@ impl Index {
         let mut places = Vec::new(alloc);
         let mut marks = Vec::new(alloc);
         for _ in 0..p.inputs() * widest {
-            if places.push(List::new(alloc)).is_err() {
-                return Err(NoMemory);
-            }
-            if marks.push(List::new(alloc)).is_err() {
-                return Err(NoMemory);
-            }
+            places.push(List::new(alloc))?;
+            marks.push(List::new(alloc))?;
         }
         Ok(Index {
             widest,

@@ -54,9 +54,7 @@ fn judged(left: &mut [usize; LENGTHS], certificate: &Named) -> u64 {
 fn named_by(alloc: Global, cuts: &[Cut], certificates: usize) -> Result<Vec<Named>, NoMemory> {
     let mut named = Vec::new(alloc);
     for _ in 0..certificates {
-        if named.push(Named { length: 0, cuts: 0 }).is_err() {
-            return Err(NoMemory);
-        }
+        named.push(Named { length: 0, cuts: 0 })?;
     }
     for cut in cuts {
         add_cut(&mut named, cut);

@@ -36,9 +36,7 @@ impl Ready {
         let widest = widest(p);
         let mut entries = Vec::new(alloc);
         for _ in 0..p.inputs() * widest {
-            if entries.push(None).is_err() {
-                return Err(NoMemory);
-            }
+            entries.push(None)?;
         }
         Ok(Ready {
             widest: widest as u16,

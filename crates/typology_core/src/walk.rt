@@ -231,9 +231,7 @@ fn ask_needed(
 fn go_on(classes: &mut Vec<ClassId>, class: ClassId) -> Result<(), NoMemory>
     ensures { OnOk result (classes.new.items ≡ classes.old.items ++ class ∷ []) }
 {
-    if classes.push(class).is_err() {
-        return Err(NoMemory);
-    }
+    classes.push(class)?;
     Ok(())
 }
 
@@ -250,10 +248,7 @@ fn leave(path: &mut Path, input: InId, terms: usize)
 fn copied(alloc: Global, conditions: &[Condition]) -> Result<Vec<Condition>, NoMemory>
     ensures { IfOk result (λ copy. copy.items ≡ conditions.now) }
 {
-    match Vec::from_slice(alloc, conditions) {
-        Ok(copy) => Ok(copy),
-        Err(_) => Err(NoMemory),
-    }
+    Ok(Vec::from_slice(alloc, conditions)?)
 }
 
 impl Path {

@@ -1,4 +1,4 @@
-use Rattle.std.proofs.Common.{◌≡◌, ◌<◌, ◌∙◌, arith, sym, length, slice_index, below_more}
+use Rattle.std.proofs.Common.{◌<◌, ◌∙◌, arith, sym, length, below_more}
 use Rattle.std.proofs.lemmas.List.{length-map}
 use Rattle.refutation.specs.Terms.{terms_in}
 use Rattle.refutation.specs.declared.contradiction.Contradiction.{Contradiction}

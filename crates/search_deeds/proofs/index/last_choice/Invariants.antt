@@ -1,7 +1,7 @@
 -- no term so far is of a later input, and one gives this input this winner
-use Rattle.std.proofs.Common.{◌≡◌, ◌<◌, ◌≤◌, ℕ, true, take}
-use Rattle.std.specs.Prelude.{All, nat_le}
-use Rattle.std.specs.List.{list_any, list_all}
+use Rattle.std.proofs.Common.{◌≡◌, ◌<◌, ◌≤◌, true, take}
+use Rattle.std.specs.Prelude.{All}
+use Rattle.std.specs.List.{list_any}
 use Rattle.refutation.specs.Terms.{terms_in}
 use Rattle.search_deeds.proofs.Choices.{gives}
 use Rattle.search_deeds.proofs.index.last_choice.Given as goal

@@ -1,5 +1,5 @@
-use Rattle.std.proofs.Common.{◌≡◌, ◌<◌, arith, length, ap, sym, ◌∙◌, slice_index, get_or}
-use Rattle.std.proofs.lemmas.List.{length-map, length-take-le, take_all, get_or_read}
+use Rattle.std.proofs.Common.{◌≡◌, ◌<◌, arith, length, get_or}
+use Rattle.std.proofs.lemmas.List.{length-map, length-take-le, take_all}
 use Rattle.ot_base.specs.declared.tableau.ClassId.{ClassId}
 use Rattle.refutation.specs.Prefixes.{class_numbers}
 use Rattle.search_deeds.proofs.Choices.{class-at}

@@ -1,4 +1,4 @@
-use Rattle.std.proofs.Common.{◌≡◌, arith, length, ap, sym, ◌∙◌, get_or}
+use Rattle.std.proofs.Common.{arith, get_or}
 use Rattle.std.proofs.lemmas.List.{length-map, take_all}
 use Rattle.refutation.specs.Terms.{term_of, terms_in}
 use Rattle.search_deeds.proofs.Choices.{term-at, no_term}

@@ -1,4 +1,4 @@
-use Rattle.std.proofs.Common.{◌≡◌, ◌<◌, ◌+◌, ◌*◌, arith, length, sym, ◌∙◌, ap, refl, [], set}
+use Rattle.std.proofs.Common.{◌<◌, ◌+◌, ◌*◌, arith, length, ◌∙◌, ap, refl, [], set}
 use Rattle.std.proofs.lemmas.List.{length-map, get_or_read}
 use Rattle.std.proofs.lemmas.Result.{on_ok_weaker}
 use Rattle.refutation.specs.Terms.{term_of, terms_in}
