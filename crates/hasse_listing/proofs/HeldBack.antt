@@ -1,5 +1,5 @@
 -- What demotion never places as long as it holds a constraint back stands necessarily below this constraint.
-use Rattle.std.proofs.Common.{◌≡◌, ◌≢◌, ℕ, zero, suc, ◌+◌, ◌-◌, ◌*◌, ◌%◌, ◌^◌, ◌<◌, ◌≤◌, max, List, [], ◌∷◌, Bool, true, false, not, ◌&&◌, ◌||◌, arith, refl, sym, ◌∙◌, ap, inl, inr, length, get_or, slice_index, map, cond}
+use Rattle.std.proofs.Common.{◌≡◌, ◌≢◌, ℕ, zero, suc, ◌+◌, ◌-◌, ◌*◌, ◌%◌, ◌^◌, ◌<◌, ◌≤◌, max, List, [], ◌∷◌, Bool, true, false, arith, refl, sym, ◌∙◌, ap, inl, inr, length, get_or, slice_index, map, cond}
 use Rattle.std.specs.Prelude.{All, IsTrue, bit_or, nat_lt, ◌==◌}
 use Rattle.std.specs.Int.{bit_at, bit_not, w64}
 use Rattle.std.specs.List.{list_all}
@@ -24,10 +24,10 @@ use Rattle.ot_theory.proofs.Entailing.{entails-from, entails-by_negation, mark_a
 use Rattle.ot_theory.proofs.Hopeless.{guarded-keeps}
 use Rattle.ot_theory.proofs.Orders.{kept-satisfied}
 use Rattle.ot_theory.proofs.Strata.{WinAbove, WinBefore, mark_at-within, keeps-guarded, satisfied-WinAbove, WinAbove-satisfied}
-use Rattle.demotion.specs.Placed.{levels_of, has_bit}
+use Rattle.demotion.specs.Placed.{levels_of}
 use Rattle.demotion.proofs.Masked.{level-bit}
 use Rattle.demotion.proofs.Stuck.{IsPlaced, IsPlaced-more}
-use Rattle.hasse_listing.specs.Covers.{over, necessarily_above}
+use Rattle.hasse_listing.specs.Covers.{over}
 use Rattle.hasse_listing.specs.Masks.{AreBelow}
 use Rattle.hasse_listing.proofs.Places.{place, place-here, place-first, levels_along, Satisfies-along, kept-ranking}
 use Rattle.hasse_listing.proofs.Pairs.{alone, length-alone, alone-loss, alone-no_win, blocked-alone, length-over, over-above, over-below, over-loss, over-win, over-marked}

@@ -1,5 +1,5 @@
 -- The condition that one constraint stands above another, and the one that holds a constraint back.
-use Rattle.std.proofs.Common.{◌≡◌, ◌≢◌, ℕ, ◌<◌, List, [], ◌∷◌, Bool, true, false, not, ◌&&◌, ◌||◌, arith, refl, sym, ◌∙◌, ap, inl, inr, length, get_or, map, cond}
+use Rattle.std.proofs.Common.{◌≡◌, ◌≢◌, ℕ, ◌<◌, List, ◌∷◌, Bool, true, false, not, ◌&&◌, ◌||◌, arith, refl, sym, ◌∙◌, ap, inl, inr, length, map, cond}
 use Rattle.std.specs.Prelude.{◌==◌}
 use Rattle.std.specs.List.{list_all}
 use Rattle.std.proofs.lemmas.Bool.{eq-eqb, ne_eqb, cases_lt, false_from_ne_true}
@@ -10,12 +10,11 @@ use Rattle.std.proofs.lemmas.List.Sums.{AllPass-from_list_all}
 use Rattle.ot_theory.specs.declared.Mark.{Mark}
 use Rattle.ot_theory.specs.declared.Mark.TheVariants.{W, L, E}
 use Rattle.ot_theory.specs.Rankings.{numbers_below}
-use Rattle.ot_theory.specs.Conditions.{mark_at, is_loss, is_even, exchanged}
+use Rattle.ot_theory.specs.Conditions.{mark_at, is_loss, is_even}
 use Rattle.ot_theory.specs.Demotion.{is_closed, is_blocked}
 use Rattle.ot_theory.proofs.Demotion.{closed-placed}
 use Rattle.ot_theory.proofs.Strata.{mark_at-within}
 use Rattle.hasse_listing.specs.Covers.{over}
-
 
 pub length-over : (n c d : ℕ) → length (over n c d) ≡ n
 length-over n c d = length-map-range_with_len (λ (k : ℕ). cond (k == c) W (cond (k == d) L E)) 0 n

@@ -1,5 +1,5 @@
 -- A ranking that keeps a set as a hierarchy with one constraint in each stratum.
-use Rattle.std.proofs.Common.{◌≡◌, ℕ, zero, suc, ◌+◌, ◌<◌, ◌≤◌, List, [], ◌∷◌, true, false, arith, refl, sym, ◌∙◌, ap, inl, inr, length, get_or, slice_index, map, cond}
+use Rattle.std.proofs.Common.{◌≡◌, ℕ, zero, suc, ◌<◌, ◌≤◌, List, [], ◌∷◌, true, false, arith, refl, sym, ◌∙◌, ap, inl, inr, length, get_or, slice_index, map, cond}
 use Rattle.std.specs.Prelude.{All, ◌==◌}
 use Rattle.std.specs.List.{list_all, list_any}
 use Rattle.std.proofs.lemmas.Bool.{eq-eqb, not-false}
@@ -10,7 +10,7 @@ use Rattle.ot_theory.specs.declared.Mark.{Mark}
 use Rattle.ot_theory.specs.declared.Mark.TheVariants.{W, L, E}
 use Rattle.ot_theory.specs.Rankings.{count_of, IsRanking, rankings, numbers_below}
 use Rattle.ot_theory.specs.Conditions.{keeps, mark_at}
-use Rattle.ot_theory.specs.Hierarchies.{satisfies, Satisfies}
+use Rattle.ot_theory.specs.Hierarchies.{Satisfies}
 use Rattle.ot_theory.specs.Refutations.{no_ranking_keeps}
 use Rattle.ot_theory.proofs.Enumeration.{count_past, FoundRanking, ranking-found}
 use Rattle.ot_theory.proofs.Strata.{WinAbove, mark_at-within, satisfied-WinAbove}
