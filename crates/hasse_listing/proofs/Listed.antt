@@ -121,11 +121,10 @@ pairs_in-covers n set masks c mask below each bits =
     ∙ sym (filter-map (is_cover n set) (pair_of c) (numbers_below n))
 
 -- one mask more
-pub masks-more : (n : ℕ) (conditions : List (List Mark)) (masks : List ℕ) (k mask : ℕ) → k < length masks → ((x : ℕ) → x < k → AreBelow n conditions x (slice_index masks x)) → AreBelow n conditions k mask
-    → (x : ℕ) → x < k + 1 → AreBelow n conditions x (slice_index (set masks k mask) x)
-masks-more n conditions masks k mask within h here x below = elim (cases_eq x k) [
-  | inl same ↦ subst (λ (y : ℕ). AreBelow n conditions y (slice_index (set masks k mask) y)) (sym same) (subst (λ (m : ℕ). AreBelow n conditions k m) (sym (get_or-set_same masks k mask 0 within)) here)
-  | inr other ↦ subst (λ (m : ℕ). AreBelow n conditions x m) (sym (get_or-set_other masks k x mask 0 other)) (h x (omega (arith, below, other)))
+pub masks-more : (P : ℕ → ℕ → Type 0) (masks : List ℕ) (k mask : ℕ) → k < length masks → ((x : ℕ) → x < k → P x (slice_index masks x)) → P k mask → (x : ℕ) → x < k + 1 → P x (slice_index (set masks k mask) x)
+masks-more P masks k mask within h here x below = elim (cases_eq x k) [
+  | inl same ↦ subst (λ (y : ℕ). P y (slice_index (set masks k mask) y)) (sym same) (subst (P k) (sym (get_or-set_same masks k mask 0 within)) here)
+  | inr other ↦ subst (P x) (sym (get_or-set_other masks k x mask 0 other)) (h x (omega (arith, below, other)))
 ]
 
 -- ---- the pairs of all constraints so far

@@ -1,4 +1,4 @@
-ghost use Rattle.std.specs.Prelude.{◌≡◌, ℕ, ◌<◌, ◌≤◌, ◌++◌, false, All, IfOk, OnOk, length};
+ghost use Rattle.std.specs.Prelude.{◌≡◌, ℕ, ◌<◌, ◌≤◌, ◌++◌, false, All, IfOk, OnOk, length, slice_index};
 ghost use Rattle.ot_theory.specs.Refutations.{no_ranking_keeps};
 ghost use Rattle.demotion.specs.Placed.{has_bit};
 ghost use Rattle.hasse_listing.specs.Covers.{covers};
@@ -21,9 +21,13 @@ pub fn covers(alloc: Global, n: usize, set: &[Condition]) -> Result<List<Cover>,
     for c in 0..n {
         below[c] = necessarily_below(n, c, set);
     }
+    let mut covered: [Mask; LIMIT] = [0; LIMIT];
+    for c in 0..n {
+        covered[c] = covered_by(n, c, &below);
+    }
     let mut list = List::new(alloc);
     for c in 0..n {
-        put_pairs(&mut list, n, c, covered_by(n, c, &below))?;
+        put_pairs(&mut list, n, c, &covered)?;
     }
     Ok(list)
 }
@@ -44,14 +48,15 @@ fn covered_by(n: usize, c: usize, below: &[Mask]) -> Mask
     below[c] & !further
 }
 
-/// Writes the pairs of c and each constraint of the mask behind the others, ascending.
-fn put_pairs(list: &mut List<Cover>, n: usize, c: usize, mask: Mask) -> Result<(), NoMemory>
+/// Writes the pairs of c and each constraint of its mask behind the others, ascending.
+fn put_pairs(list: &mut List<Cover>, n: usize, c: usize, masks: &[Mask]) -> Result<(), NoMemory>
     requires within { n ≤ LIMIT }
+    requires each { n ≤ length masks.now }
     requires constraint { c < n }
-    ensures { OnOk result (list.new ≡ list.old ++ pairs_in n c mask) }
+    ensures { OnOk result (list.new ≡ list.old ++ pairs_in n c (slice_index masks.now c)) }
 {
     for d in 0..n {
-        if has_bit(mask, d) {
+        if has_bit(masks[c], d) {
             list.push(Cover {
                 above: ConId(c as u16),
                 below: ConId(d as u16),

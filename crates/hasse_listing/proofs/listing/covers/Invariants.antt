@@ -1,5 +1,6 @@
 use Rattle.std.proofs.Common.{◌≡◌, ℕ, ◌<◌, length, slice_index}
-use Rattle.hasse_listing.specs.Masks.{AreBelow}
+use Rattle.demotion.specs.Placed.{has_bit}
+use Rattle.hasse_listing.specs.Masks.{AreBelow, is_covered}
 use Rattle.hasse_listing.proofs.Listed.{covers_above}
 use Rattle.hasse_listing.proofs.listing.covers.Given as goal
 
@@ -10,6 +11,13 @@ invariant-loop-c l = record {
   each : (x : ℕ) → x < l.c → AreBelow l.n l.set x (slice_index l.below x);
 }
 
--- the covers of the constraints so far
+-- what they cover
 abbrev pub invariant-loop-c-2 : goal.invariant-loop-c-2
-invariant-loop-c-2 l = l.list ≡ covers_above l.n l.set l.c
+invariant-loop-c-2 l = record {
+  wide : length l.covered ≡ 64;
+  each : (x : ℕ) → x < l.c → (d : ℕ) → d < l.n → has_bit (slice_index l.covered x) d ≡ is_covered l.n l.below x d;
+}
+
+-- the covers of the constraints so far
+abbrev pub invariant-loop-c-3 : goal.invariant-loop-c-3
+invariant-loop-c-3 l = l.list ≡ covers_above l.n l.set l.c
