@@ -1,5 +1,3 @@
-use Rattle.std.proofs.Common.{◌∙◌, ◌++◌, ◌∷◌, [], List, ℕ, ap}
-use Rattle.std.proofs.lemmas.List.{get_or_read}
 use Rattle.t_orders.proofs.Choosing.{choices-longer, choices-all}
 use Rattle.t_orders.proofs.tests.add_choices.Goals as goal
 

@@ -1,4 +1,4 @@
-use Rattle.std.proofs.Common.{◌∙◌, ◌++◌, ◌∷◌, List, ℕ, ap, map, flat_map, sym}
+use Rattle.std.proofs.Common.{◌∙◌, ◌++◌, ◌∷◌, List, ℕ, ap, map, sym}
 use Rattle.t_orders.proofs.Listed.{flat_map-below_more}
 use Rattle.t_orders.proofs.tests.choices_with.Goals as goal
 
