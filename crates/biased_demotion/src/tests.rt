@@ -195,15 +195,21 @@ fn open_conditions_are_named(rt: HostRuntime) -> Result<(), NoMemory> {
 
 #[test]
 fn hierarchies_without_conditions(rt: HostRuntime) -> Result<(), NoMemory> {
-    for (faith, measure) in [
-        ([false, true, true], 2),
-        ([true, true, true], 0),
-        ([false, false, false], 0),
-        ([false, false, true], 2),
+    for (faith, levels, measure) in [
+        ([false, true, true], [1, 2, 2], 2),
+        ([true, true, true], [1, 1, 1], 0),
+        ([false, false, false], [1, 1, 1], 0),
+        ([false, false, true], [1, 1, 2], 2),
     ] {
         let found = biased(rt.alloc(), &[], &faith)?;
         assert!(rt; matches!(&found, Demoted::Ranked(_)));
         if let Demoted::Ranked(strata) = &found {
+            let found = [
+                strata.level(ConId(0)),
+                strata.level(ConId(1)),
+                strata.level(ConId(2)),
+            ];
+            assert_eq!(rt; found, levels);
             assert_eq!(rt; r_measure(strata, &faith), measure);
         }
     }
