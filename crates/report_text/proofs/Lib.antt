@@ -4,3 +4,4 @@ pub mod Grown
 pub mod Posed
 pub mod Spaced
 pub mod Members
+pub mod WithBoth
