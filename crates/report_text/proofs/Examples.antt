@@ -2,12 +2,16 @@
 use Rattle.std.proofs.Common.{◌≡◌, ℕ, List, [], ◌∷◌, refl}
 use Rattle.std.specs.Prelude.{codes, Some, None}
 use Rattle.std.specs.Fmt.{digits}
+use Rattle.erc_vectors.specs.declared.cover.Cover.{Cover}
 use Rattle.ot_base.specs.declared.tableau.CandidateRow.{CandidateRow}
 use Rattle.ot_base.specs.declared.tableau.InputRows.{InputRows}
 use Rattle.ot_base.specs.declared.tableau.Tableau.{Tableau}
 use Rattle.ot_base.specs.Tableaus.{problem_of}
+use Rattle.ot_theory.specs.declared.Mark.TheVariants.{W, L, E}
 use Rattle.ot_theory.specs.Languages.{Term}
+use Rattle.refutation.specs.declared.implication.Implication.{Implication}
 use Rattle.report_text.specs.Reports.{head, rank_report, contradiction_report, cut_line, typology_report}
+use Rattle.report_text.specs.Listings.{hasse_report, bases_report, torder_report}
 
 abbrev candidate : List ℕ → ℕ → List ℕ → CandidateRow
 candidate text count violations = record { text = text; count = count; violations = violations; line = 3 }
@@ -93,3 +97,34 @@ languages_alone = refl
 pub cut_of_the_empty_prefix : cut_line 2 ([], 4) ≡ codes "cut\t2\t-\t5\n"
 unfolding digits
 cut_of_the_empty_prefix = refl
+
+-- each constraint over the next one
+abbrev cover : ℕ → ℕ → Cover
+cover c d = record { above = record { 0 = c }; below = record { 0 = d } }
+
+pub hasse_of_chain : hasse_report chain (problem_of chain) (cover 0 1 ∷ cover 1 2 ∷ []) ≡ codes "otsoft report 1\thasse\nconstraints\t3\nconstraint\t1\tA\tA\nconstraint\t2\tB\tB\nconstraint\t3\tC\tC\ninputs\t2\ninput\t1\tx\t2\nclass\t1.1\t0 1 0\tp\nclass\t1.2\t1 0 0\tq\ninput\t2\ty\t2\nclass\t2.1\t0 0 1\tr\nclass\t2.2\t0 1 0\ts\nwinner\t1\t1\nwinner\t2\t1\ncovers\t2\ncover\t1\t2\tA\tB\ncover\t2\t3\tB\tC\nend\n"
+unfolding hasse_report head digits
+hasse_of_chain = refl
+
+pub bases_of_chain : bases_report chain (problem_of chain) ((W ∷ L ∷ L ∷ []) ∷ (E ∷ W ∷ L ∷ []) ∷ []) ((W ∷ L ∷ E ∷ []) ∷ (E ∷ W ∷ L ∷ []) ∷ []) ≡ codes "otsoft report 1\tbases\nconstraints\t3\nconstraint\t1\tA\tA\nconstraint\t2\tB\tB\nconstraint\t3\tC\tC\ninputs\t2\ninput\t1\tx\t2\nclass\t1.1\t0 1 0\tp\nclass\t1.2\t1 0 0\tq\ninput\t2\ty\t2\nclass\t2.1\t0 0 1\tr\nclass\t2.2\t0 1 0\ts\nwinner\t1\t1\nwinner\t2\t1\nconditions\t2\ncondition\t1\tWLe\t1:1>2\ncondition\t2\teWL\t2:1>2\nmembers\t2\nmember\t1\tWLL\tWLe\nmember\t2\teWL\teWL\nend\n"
+unfolding bases_report head digits
+bases_of_chain = refl
+
+-- the condition over the last loser has no L
+abbrev devoicing : Tableau
+devoicing = named (codes "IdOns" ∷ codes "NVO" ∷ codes "IdV" ∷ [])
+    (record { text = codes "bed"; candidates = candidate (codes "bed") 0 (0 ∷ 2 ∷ 0 ∷ []) ∷ candidate (codes "bet") 1000000000 (0 ∷ 1 ∷ 1 ∷ []) ∷ candidate (codes "pet") 0 (1 ∷ 0 ∷ 2 ∷ []) ∷ candidate (codes "ped") 0 (1 ∷ 1 ∷ 1 ∷ []) ∷ [] } ∷ [])
+
+pub bases_of_devoicing : bases_report devoicing (problem_of devoicing) ((W ∷ L ∷ L ∷ []) ∷ (E ∷ W ∷ L ∷ []) ∷ []) ((W ∷ L ∷ E ∷ []) ∷ (E ∷ W ∷ L ∷ []) ∷ []) ≡ codes "otsoft report 1\tbases\nconstraints\t3\nconstraint\t1\tIdOns\tIdOns\nconstraint\t2\tNVO\tNVO\nconstraint\t3\tIdV\tIdV\ninputs\t1\ninput\t1\tbed\t4\nclass\t1.1\t0 2 0\tbed\nclass\t1.2\t0 1 1\tbet\nclass\t1.3\t1 0 2\tpet\nclass\t1.4\t1 1 1\tped\nwinner\t1\t2\nconditions\t2\ncondition\t1\teWL\t1:2>1\ncondition\t2\tWLW\t1:2>3\nmembers\t2\nmember\t1\tWLL\tWLe\nmember\t2\teWL\teWL\nend\n"
+unfolding bases_report head digits
+bases_of_devoicing = refl
+
+-- each class of the one input implies the class of the other with the same profile
+abbrev implies : ℕ → ℕ → ℕ → ℕ → Implication
+implies i a j b = record { from_input = record { 0 = i }; from_class = record { 0 = a }; to_input = record { 0 = j }; to_class = record { 0 = b } }
+
+pub torder_of_codas : torder_report codas (problem_of codas)
+    (implies 0 0 1 0 ∷ implies 0 1 1 1 ∷ implies 0 2 1 2 ∷ implies 1 0 0 0 ∷ implies 1 1 0 1 ∷ implies 1 2 0 2 ∷ [])
+    ≡ codes "otsoft report 1\ttorder\nconstraints\t3\nconstraint\t1\tNoCoda\tNoCoda\nconstraint\t2\tMax\tMax\nconstraint\t3\tDep\tDep\ninputs\t2\ninput\t1\tpat\t3\nclass\t1.1\t1 0 0\tpat\nclass\t1.2\t0 1 0\tpa\nclass\t1.3\t0 0 1\tpa.ti\ninput\t2\ttak\t3\nclass\t2.1\t1 0 0\ttak\nclass\t2.2\t0 1 0\tta\nclass\t2.3\t0 0 1\tta.ki\nimplications\t6\nimplication\t1.1\t2.1\nimplication\t1.2\t2.2\nimplication\t1.3\t2.3\nimplication\t2.1\t1.1\nimplication\t2.2\t1.2\nimplication\t2.3\t1.3\nend\n"
+unfolding torder_report head digits
+torder_of_codas = refl

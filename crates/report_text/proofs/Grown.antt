@@ -35,6 +35,10 @@ pub numbered_pairs_more : {X Y : Type 0} (f : ℕ × (X × Y) → List ℕ) (xs 
 numbered_pairs_more f xs ys k x y in_xs in_ys x-here y-here =
     numbered_more f (zip xs ys) k (x, y) (x, y) (omega (arith, length-zip xs ys)) (rw (get_or-zip xs ys k (x, y) in_xs in_ys, ← x-here, ← y-here) refl)
 
+-- items one after the other
+pub each_more : {X : Type 0} (f : X → List ℕ) (xs : List X) (k : ℕ) (d : X) → k < length xs → flat_map f (take (k + 1) xs) ≡ flat_map f (take k xs) ++ f (get_or xs k d)
+each_more f xs k d below = rw (take_more xs k d below, flat_map-append, append-nil) refl
+
 -- items as fields, each behind a tab
 abbrev pub fields : {X : Type 0} → (X → List ℕ) → List X → List ℕ
 fields field xs = flat_map (λ text. 9 ∷ text) (map field xs)

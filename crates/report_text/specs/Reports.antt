@@ -8,7 +8,7 @@ use Rattle.ot_theory.specs.Conditions.{fusion}
 use Rattle.ot_theory.specs.Hierarchies.{in_stratum, order_along}
 use Rattle.ot_theory.specs.Languages.{Term, condition_of}
 use Rattle.ot_theory.specs.Problems.{Problem, Input, same_profile}
-use Rattle.report_text.specs.Spelling.{line, spaced, stratum, stratum_count, hierarchy, prefix, winner, marks, terms}
+use Rattle.report_text.specs.Spelling.{line, spaced, output, stratum, stratum_count, hierarchy, prefix, winner, marks, terms}
 
 abbrev pub title : List ℕ → List ℕ
 title command = line (codes "otsoft report 1" ∷ command ∷ [])
@@ -29,7 +29,7 @@ text_at rows k = slice_index_or (map (λ row. row.text) rows.candidates) k []
 
 abbrev pub class_line : ℕ → InputRows → ℕ → List ℕ → List ℕ
 class_line i rows a profile =
-    line (codes "class" ∷ (decimal i ++ codes "." ++ decimal a) ∷ spaced profile ∷ members rows profile)
+    line (codes "class" ∷ output i a ∷ spaced profile ∷ members rows profile)
 
 -- an input, of which the rows give the texts and the classes the profiles
 abbrev pub input_lines : ℕ → InputRows → Input → List ℕ

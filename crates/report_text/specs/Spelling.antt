@@ -35,6 +35,10 @@ prefix (a ∷ classes) = spaced (map (λ b. b + 1) (a ∷ classes))
 abbrev pub behind_spaces : List ℕ → List ℕ
 behind_spaces classes = flat_map (λ a. 32 ∷ decimal (a + 1)) classes
 
+-- an input and a class of it by their numbers, with a point between them
+abbrev pub output : ℕ → ℕ → List ℕ
+output i a = decimal i ++ codes "." ++ decimal a
+
 -- a class number, counted from 1, or the word for none
 abbrev pub winner : Option ℕ → List ℕ
 winner None = codes "none"

@@ -103,9 +103,7 @@ fn put_class(
     ensures { OnOk result (text.new ≡ text.old ++ reports.class_line i rows.now a profile.now) }
 {
     text.put(b"class")?;
-    text.number_field(i)?;
-    text.put(b".")?;
-    text.number(a)?;
+    text.output_field(i, a)?;
     text.put(b"\t")?;
     put_spaced(text, profile)?;
     put_members(text, rows, members)?;

@@ -4,31 +4,32 @@
 //! (Tesar and Smolensky 2000), and the prefixes of choices that are none, each with conditions that no ranking keeps together
 //! and their fusion (Prince 2002); or which class of each input wins (a candidate with its count, as an OTSoft file has it), and
 //! the strata of a hierarchy with a tableau of each input whose rows mark the fatal violation of each loser, as tableaux are
-//! drawn since Prince and Smolensky (1993). The lines, their fields and their order are this project's own.
+//! drawn since Prince and Smolensky (1993). It also lists what all rankings share that make the winners optimal, as covers
+//! (Prince 2002) or as two bases (after Brasoveanu and Prince 2011), and which output implies which. The lines, their fields
+//! and their order are this project's own.
 //!
-//! The report of a typology is also read, by a grammar whose lines are judged from the first one on: `specs/Fields.antt` says
-//! what fields spell, `specs/Shapes.antt` what a line has, and `specs/Grammar.antt` which line may stand where.
+//! The report of a typology is read by `report_reader`, whose call stands here too.
 #![tactic(auto)]
 
+mod bases;
 mod contradiction;
+mod hasse;
 mod head;
 mod hierarchy;
 mod rank;
-mod reading;
-mod reading_blocks;
-mod reading_fields;
-mod reading_lines;
-mod reading_misread;
-mod reading_pieces;
 mod tableaux;
 mod terms;
 #[cfg(test)]
 mod tests;
 mod text;
+mod torder;
 mod typology;
 mod winners;
 
+pub use bases::bases_text;
 pub use contradiction::contradiction_text;
+pub use hasse::hasse_text;
 pub use rank::rank_text;
-pub use reading::{REPORT_LIMIT, TextError, read_typology_text};
+pub use report_reader::{REPORT_LIMIT, TextError, read_typology_text};
+pub use torder::torder_text;
 pub use typology::typology_text;

@@ -27,8 +27,8 @@ pub(crate) fn put_fused_terms(text: &mut Text, p: &Problem, terms: &[Term]) -> R
     put_terms(text, terms)
 }
 
-/// The letter of each mark, in file order.
-fn put_marks(text: &mut Text, condition: &Condition) -> Result<(), NoMemory>
+/// The letter of each mark of a condition, in file order.
+pub(crate) fn put_marks(text: &mut Text, condition: &Condition) -> Result<(), NoMemory>
     ensures { OnOk result (text.new ≡ text.old ++ spelling.marks condition.now) }
 {
     for c in 0..condition.width() {
@@ -59,7 +59,7 @@ fn put_terms(text: &mut Text, terms: &[Term]) -> Result<(), NoMemory>
 }
 
 /// A term: its input, its winner and its loser, by their numbers from 1 on.
-fn put_term(text: &mut Text, term: &Term) -> Result<(), NoMemory>
+pub(crate) fn put_term(text: &mut Text, term: &Term) -> Result<(), NoMemory>
     ensures { OnOk result (text.new ≡ text.old ++ spelling.term (term_of term.now)) }
 {
     text.number(term.input.0 as usize + 1)?;

@@ -1,34 +1,19 @@
-ghost use Rattle.std.specs.Prelude.{◌≡◌, ◌<◌, length, IfOk, All};
+ghost use Rattle.std.specs.Prelude.{◌≡◌, ◌<◌, ◌≤◌, length, IfOk, All};
 ghost use Rattle.ot_base.specs.Acceptable.{IsRow, AreRows, IsAcceptable};
+ghost use Rattle.ot_base.specs.declared.limits.TheConstants.{CANDIDATE_LIMIT};
 
-use crate::{
-    REPORT_LIMIT, TextError, contradiction_text, rank_text, read_typology_text, typology_text,
-};
-use erc_vectors::{List, NoMemory, Strata};
+use crate::{bases_text, contradiction_text, hasse_text, rank_text, torder_text, typology_text};
+use erc_vectors::{ConId, Condition, Cover, List, Mark, NoMemory, Strata};
+use fusional_reduction::Bases;
 use ot_base::{CandidateRow, ClassId, InId, InputRows, Label, Tableau};
-use refutation::{Contradiction, Cut, Language, Prefix, Term, Typology, is_genuine};
+use refutation::{Contradiction, Cut, Implication, Language, Prefix, Term, Typology, is_genuine};
 use std::alloc::Global;
 use std::process::Abort;
 use std::test::Fail;
 use violation_profiles::Problem;
 
-const CHAIN_REPORT: &str =
-    "otsoft report 1\trank\nconstraints\t3\nconstraint\t1\tA\tA\nconstraint\t2\tB\tB\nconstraint\t3\tC\tC\ninputs\t2\ninput\t1\tx\t2\nclass\t1.1\t0 1 0\tp\nclass\t1.2\t1 0 0\tq\ninput\t2\ty\t2\nclass\t2.1\t0 0 1\tr\nclass\t2.2\t0 1 0\ts\nwinner\t1\t1\nwinner\t2\t1\nstrata\t3\nstratum\t1\t1\tA\nstratum\t2\t2\tB\nstratum\t3\t3\tC\ntableau\t1\tx\norder\t1\t2\t3\nrow\t1\t>\t0\t1\t0\nrow\t2\t-\t1!\t0\t0\ntableau\t2\ty\norder\t1\t2\t3\nrow\t1\t>\t0\t0\t1\nrow\t2\t-\t0\t1!\t0\nend\n";
-
-const UNCOUNTED_REPORT: &str =
-    "otsoft report 1\trank\nconstraints\t3\nconstraint\t1\tNV\tNoVoice\nconstraint\t2\tId\tIdent, voice\nconstraint\t3\tMax\tMax\ninputs\t2\ninput\t1\tbad\t2\nclass\t1.1\t1 12 0\tbat\nclass\t1.2\t2 0 0\tbad\ninput\t2\tpa\t1\nclass\t2.1\t0 0 0\tpa\tp\nwinner\t1\t2\nwinner\t2\tnone\nstrata\t2\nstratum\t1\t2 3\tId\tMax\nstratum\t2\t1\tNV\nrmeasure\t10\ntableau\t1\tbad\norder\t2\t3\t1\nrow\t1\t-\t12!\t0\t1\nrow\t2\t>\t0\t0\t2\nend\n";
-
-const CODAS_REPORT: &str =
-    "otsoft report 1\thasse\nconstraints\t3\nconstraint\t1\tNoCoda\tNoCoda\nconstraint\t2\tMax\tMax\nconstraint\t3\tDep\tDep\ninputs\t2\ninput\t1\tpat\t2\nclass\t1.1\t1 0 0\tpat\nclass\t1.2\t0 1 0\tpa\ninput\t2\ttak\t2\nclass\t2.1\t1 0 0\ttak\nclass\t2.2\t0 1 0\tta\nwinner\t1\t1\nwinner\t2\t2\ncontradiction\tLLe\t1:1>2 2:2>1\nend\n";
-
-const SHARED_REPORT: &str =
-    "otsoft report 1\ttypology\nconstraints\t3\nconstraint\t1\tNoCoda\tNoCoda\nconstraint\t2\tMax\tMax\nconstraint\t3\tDep\tDep\ninputs\t2\ninput\t1\tpat\t2\nclass\t1.1\t1 0 0\tpat\nclass\t1.2\t0 1 0\tpa\ninput\t2\tku\t2\nclass\t2.1\t0 0 0\tku\nclass\t2.2\t1 0 0\tkut\nlanguages\t2\nlanguage\t1\t1 1\t2 3 | 1\nlanguage\t2\t2 1\t1 3 | 2\ncertificates\t1\ncertificate\t1\tLee\t2:2>1\ncuts\t2\ncut\t1\t1 2\t1\ncut\t2\t2 2\t1\nend\n";
-
 /// A candidate's text, its count and its violations of three constraints.
 type Row = (&'static str, u64, [u8; 3]);
-
-/// An input's text and its two candidates.
-type Input = (&'static str, [Row; 2]);
 
 fn row(alloc: Global, row: &Row) -> Result<CandidateRow, NoMemory>
     ensures { IfOk result (λ row. IsRow 3 row) }
@@ -45,15 +30,18 @@ fn row(alloc: Global, row: &Row) -> Result<CandidateRow, NoMemory>
     })
 }
 
-fn input(alloc: Global, input: &Input) -> Result<InputRows, NoMemory>
+/// An input of this text and these candidates.
+fn input(alloc: Global, text: &str, rows: &[Row]) -> Result<InputRows, NoMemory>
+    requires some { 1 ≤ length rows.now }
+    requires few { length rows.now ≤ CANDIDATE_LIMIT }
     ensures { IfOk result (λ input. AreRows 3 input) }
 {
     let mut candidates = List::new(alloc);
-    for candidate in &input.1 {
+    for candidate in rows {
         candidates.push(row(alloc, candidate)?)?;
     }
     Ok(InputRows {
-        text: Label::of(alloc, input.0.as_bytes())?,
+        text: Label::of(alloc, text.as_bytes())?,
         candidates,
     })
 }
@@ -68,22 +56,26 @@ fn labels(alloc: Global, texts: &[&str; 3]) -> Result<List<Label>, NoMemory>
     Ok(labels)
 }
 
+/// A tableau of three constraints and two inputs.
 fn tableau(
     alloc: Global,
     names: &[&str; 3],
     abbrevs: &[&str; 3],
-    inputs: &[Input; 2],
+    first: InputRows,
+    second: InputRows,
 ) -> Result<Tableau, NoMemory>
+    requires first { AreRows 3 first }
+    requires second { AreRows 3 second }
     ensures acceptable { IfOk result IsAcceptable }
     ensures names { IfOk result (λ tableau. length tableau.names ≡ 3) }
 {
-    let mut rows = List::new(alloc);
-    rows.push(input(alloc, &inputs[0])?)?;
-    rows.push(input(alloc, &inputs[1])?)?;
+    let mut inputs = List::new(alloc);
+    inputs.push(first)?;
+    inputs.push(second)?;
     Ok(Tableau {
         names: labels(alloc, names)?,
         abbrevs: labels(alloc, abbrevs)?,
-        inputs: rows,
+        inputs,
     })
 }
 
@@ -93,49 +85,130 @@ fn strata(rt: &impl Abort, levels: &[u8; 3]) -> Strata
     Strata::of(levels).expect(rt, "three levels")
 }
 
-/// Each constraint decides for one input.
+/// The text of a report: its title, its lines from there to the last class, and those behind them.
+fn report_of(alloc: Global, command: &str, head: &str, rest: &str) -> Result<String, Fail> {
+    let mut report = String::new(alloc);
+    for part in ["otsoft report 1\t", command, "\n", head, rest] {
+        report.push_str(part)?;
+    }
+    Ok(report)
+}
+
+fn conditions(
+    rt: &impl Abort,
+    alloc: Global,
+    rows: &[[Mark; 3]; 2],
+) -> Result<List<Condition>, NoMemory>
+    ensures { IfOk result (λ conditions. length conditions ≡ 2) }
+{
+    let mut conditions = List::new(alloc);
+    for marks in rows {
+        conditions.push(Condition::of(marks).expect(rt, "three marks"))?;
+    }
+    Ok(conditions)
+}
+
+/// The lines of the head of two inputs, of which each constraint decides for one class.
+const CHAIN_HEAD: &str =
+    "constraints\t3\nconstraint\t1\tA\tA\nconstraint\t2\tB\tB\nconstraint\t3\tC\tC\ninputs\t2\ninput\t1\tx\t2\nclass\t1.1\t0 1 0\tp\nclass\t1.2\t1 0 0\tq\ninput\t2\ty\t2\nclass\t2.1\t0 0 1\tr\nclass\t2.2\t0 1 0\ts\n";
+
+/// Two inputs, of which each constraint decides for one class.
+fn chain(alloc: Global) -> Result<Tableau, NoMemory>
+    ensures acceptable { IfOk result IsAcceptable }
+    ensures names { IfOk result (λ tableau. length tableau.names ≡ 3) }
+{
+    let names = ["A", "B", "C"];
+    let x = input(alloc, "x", &[("p", 1, [0, 1, 0]), ("q", 0, [1, 0, 0])])?;
+    let y = input(alloc, "y", &[("r", 1, [0, 0, 1]), ("s", 0, [0, 1, 0])])?;
+    tableau(alloc, &names, &names, x, y)
+}
+
 #[test]
 fn a_hierarchy_of_three_strata(rt: HostRuntime) -> Result<(), Fail> {
-    let names = ["A", "B", "C"];
-    let inputs = [
-        ("x", [("p", 1, [0, 1, 0]), ("q", 0, [1, 0, 0])]),
-        ("y", [("r", 1, [0, 0, 1]), ("s", 0, [0, 1, 0])]),
-    ];
-    let tableau = tableau(rt.alloc(), &names, &names, &inputs)?;
-    let problem = Problem::of(rt.alloc(), &tableau)?;
+    let alloc = rt.alloc();
+    let tableau = chain(alloc)?;
+    let problem = Problem::of(alloc, &tableau)?;
     let strata = strata(&rt, &[1, 2, 3]);
-    let report = rank_text(rt.alloc(), &tableau, &problem, &strata, None)?;
-    assert!(rt; report.bytes() == CHAIN_REPORT.as_bytes());
+    let report = rank_text(alloc, &tableau, &problem, &strata, None)?;
+    let rest =
+        "winner\t1\t1\nwinner\t2\t1\nstrata\t3\nstratum\t1\t1\tA\nstratum\t2\t2\tB\nstratum\t3\t3\tC\ntableau\t1\tx\norder\t1\t2\t3\nrow\t1\t>\t0\t1\t0\nrow\t2\t-\t1!\t0\t0\ntableau\t2\ty\norder\t1\t2\t3\nrow\t1\t>\t0\t0\t1\nrow\t2\t-\t0\t1!\t0\nend\n";
+    let expected = report_of(alloc, "rank", CHAIN_HEAD, rest)?;
+    assert!(rt; report.bytes() == expected.as_bytes());
     Ok(())
 }
 
-/// Two constraints in the first stratum, an r-measure, and an input whose candidates are alike and have no counts.
 #[test]
-fn a_stratum_of_two_and_an_input_without_a_winner(rt: HostRuntime) -> Result<(), Fail> {
-    let names = ["NoVoice", "Ident, voice", "Max"];
-    let inputs = [
-        ("bad", [("bat", 0, [1, 12, 0]), ("bad", 7, [2, 0, 0])]),
-        ("pa", [("pa", 0, [0, 0, 0]), ("p", 0, [0, 0, 0])]),
+fn covers_of_three_strata(rt: HostRuntime) -> Result<(), Fail> {
+    let alloc = rt.alloc();
+    let tableau = chain(alloc)?;
+    let problem = Problem::of(alloc, &tableau)?;
+    let covers = [
+        Cover {
+            above: ConId(0),
+            below: ConId(1),
+        },
+        Cover {
+            above: ConId(1),
+            below: ConId(2),
+        },
     ];
-    let tableau = tableau(rt.alloc(), &names, &["NV", "Id", "Max"], &inputs)?;
-    let problem = Problem::of(rt.alloc(), &tableau)?;
-    let strata = strata(&rt, &[2, 1, 1]);
-    let report = rank_text(rt.alloc(), &tableau, &problem, &strata, Some(10))?;
-    assert!(rt; report.bytes() == UNCOUNTED_REPORT.as_bytes());
+    let report = hasse_text(alloc, &tableau, &problem, &covers)?;
+    let rest = "winner\t1\t1\nwinner\t2\t1\ncovers\t2\ncover\t1\t2\tA\tB\ncover\t2\t3\tB\tC\nend\n";
+    let expected = report_of(alloc, "hasse", CHAIN_HEAD, rest)?;
+    assert!(rt; report.bytes() == expected.as_bytes());
     Ok(())
 }
 
-/// Two inputs that would be repaired in different ways.
+#[test]
+fn bases_of_two_members(rt: HostRuntime) -> Result<(), Fail> {
+    let alloc = rt.alloc();
+    let tableau = chain(alloc)?;
+    let problem = Problem::of(alloc, &tableau)?;
+    let whole = [[Mark::W, Mark::L, Mark::L], [Mark::E, Mark::W, Mark::L]];
+    let less = [[Mark::W, Mark::L, Mark::E], [Mark::E, Mark::W, Mark::L]];
+    let bases = Bases {
+        informative: conditions(&rt, alloc, &whole)?,
+        skeletal: conditions(&rt, alloc, &less)?,
+    };
+    let report = bases_text(alloc, &tableau, &problem, &bases)?;
+    let rest =
+        "winner\t1\t1\nwinner\t2\t1\nconditions\t2\ncondition\t1\tWLe\t1:1>2\ncondition\t2\teWL\t2:1>2\nmembers\t2\nmember\t1\tWLL\tWLe\nmember\t2\teWL\teWL\nend\n";
+    let expected = report_of(alloc, "bases", CHAIN_HEAD, rest)?;
+    assert!(rt; report.bytes() == expected.as_bytes());
+    Ok(())
+}
+
+/// The lines of the head of two inputs with the same repairs.
+const CODAS_HEAD: &str =
+    "constraints\t3\nconstraint\t1\tNoCoda\tNoCoda\nconstraint\t2\tMax\tMax\nconstraint\t3\tDep\tDep\ninputs\t2\ninput\t1\tpat\t3\nclass\t1.1\t1 0 0\tpat\nclass\t1.2\t0 1 0\tpa\nclass\t1.3\t0 0 1\tpa.ti\ninput\t2\ttak\t3\nclass\t2.1\t1 0 0\ttak\nclass\t2.2\t0 1 0\tta\nclass\t2.3\t0 0 1\tta.ki\n";
+
+/// Two inputs that would be repaired alike, and whose winners are not.
+fn codas(alloc: Global) -> Result<Tableau, NoMemory>
+    ensures acceptable { IfOk result IsAcceptable }
+{
+    let names = ["NoCoda", "Max", "Dep"];
+    let pat = [
+        ("pat", 1, [1, 0, 0]),
+        ("pa", 0, [0, 1, 0]),
+        ("pa.ti", 0, [0, 0, 1]),
+    ];
+    let tak = [
+        ("tak", 0, [1, 0, 0]),
+        ("ta", 1, [0, 1, 0]),
+        ("ta.ki", 0, [0, 0, 1]),
+    ];
+    let first = input(alloc, "pat", &pat)?;
+    let second = input(alloc, "tak", &tak)?;
+    tableau(alloc, &names, &names, first, second)
+}
+
+/// Two winners that would be repaired in different ways.
 #[test]
 fn terms_that_no_ranking_keeps(rt: HostRuntime) -> Result<(), Fail> {
-    let names = ["NoCoda", "Max", "Dep"];
-    let inputs = [
-        ("pat", [("pat", 1, [1, 0, 0]), ("pa", 0, [0, 1, 0])]),
-        ("tak", [("tak", 0, [1, 0, 0]), ("ta", 1, [0, 1, 0])]),
-    ];
-    let tableau = tableau(rt.alloc(), &names, &names, &inputs)?;
-    let problem = Problem::of(rt.alloc(), &tableau)?;
-    let mut terms = List::new(rt.alloc());
+    let alloc = rt.alloc();
+    let tableau = codas(alloc)?;
+    let problem = Problem::of(alloc, &tableau)?;
+    let mut terms = List::new(alloc);
     for (i, a, b) in [(0, 0, 1), (1, 1, 0)] {
         terms.push(Term {
             input: InId(i),
@@ -146,10 +219,67 @@ fn terms_that_no_ranking_keeps(rt: HostRuntime) -> Result<(), Fail> {
     let found = Contradiction { terms };
     let genuine = is_genuine(&problem, &found);
     assert!(rt; genuine);
-    let report = contradiction_text(rt.alloc(), &tableau, &problem, "hasse", &found)?;
-    assert!(rt; report.bytes() == CODAS_REPORT.as_bytes());
+    let report = contradiction_text(alloc, &tableau, &problem, "hasse", &found)?;
+    let rest = "winner\t1\t1\nwinner\t2\t2\ncontradiction\tLLe\t1:1>2 2:2>1\nend\n";
+    let expected = report_of(alloc, "hasse", CODAS_HEAD, rest)?;
+    assert!(rt; report.bytes() == expected.as_bytes());
     Ok(())
 }
+
+/// Each class of the one input implies that of the other with the same profile.
+#[test]
+fn implications_between_two_inputs(rt: HostRuntime) -> Result<(), Fail> {
+    let alloc = rt.alloc();
+    let tableau = codas(alloc)?;
+    let problem = Problem::of(alloc, &tableau)?;
+    let mut implications = List::new(alloc);
+    for (i, a, j) in [
+        (0, 0, 1),
+        (0, 1, 1),
+        (0, 2, 1),
+        (1, 0, 0),
+        (1, 1, 0),
+        (1, 2, 0),
+    ] {
+        implications.push(Implication {
+            from_input: InId(i),
+            from_class: ClassId(a),
+            to_input: InId(j),
+            to_class: ClassId(a),
+        })?;
+    }
+    let report = torder_text(alloc, &tableau, &problem, implications.as_slice())?;
+    let rest =
+        "implications\t6\nimplication\t1.1\t2.1\nimplication\t1.2\t2.2\nimplication\t1.3\t2.3\nimplication\t2.1\t1.1\nimplication\t2.2\t1.2\nimplication\t2.3\t1.3\nend\n";
+    let expected = report_of(alloc, "torder", CODAS_HEAD, rest)?;
+    assert!(rt; report.bytes() == expected.as_bytes());
+    Ok(())
+}
+
+const UNCOUNTED_REPORT: &str =
+    "otsoft report 1\trank\nconstraints\t3\nconstraint\t1\tNV\tNoVoice\nconstraint\t2\tId\tIdent, voice\nconstraint\t3\tMax\tMax\ninputs\t2\ninput\t1\tbad\t2\nclass\t1.1\t1 12 0\tbat\nclass\t1.2\t2 0 0\tbad\ninput\t2\tpa\t1\nclass\t2.1\t0 0 0\tpa\tp\nwinner\t1\t2\nwinner\t2\tnone\nstrata\t2\nstratum\t1\t2 3\tId\tMax\nstratum\t2\t1\tNV\nrmeasure\t10\ntableau\t1\tbad\norder\t2\t3\t1\nrow\t1\t-\t12!\t0\t1\nrow\t2\t>\t0\t0\t2\nend\n";
+
+/// Two constraints in the first stratum, an r-measure, and an input whose candidates are alike and have no counts.
+#[test]
+fn a_stratum_of_two_and_an_input_without_a_winner(rt: HostRuntime) -> Result<(), Fail> {
+    let names = ["NoVoice", "Ident, voice", "Max"];
+    let alloc = rt.alloc();
+    let bad = input(
+        alloc,
+        "bad",
+        &[("bat", 0, [1, 12, 0]), ("bad", 7, [2, 0, 0])],
+    )?;
+    let pa = input(alloc, "pa", &[("pa", 0, [0, 0, 0]), ("p", 0, [0, 0, 0])])?;
+    let tableau = tableau(alloc, &names, &["NV", "Id", "Max"], bad, pa)?;
+    let problem = Problem::of(alloc, &tableau)?;
+    let strata = strata(&rt, &[2, 1, 1]);
+    let report = rank_text(alloc, &tableau, &problem, &strata, Some(10))?;
+    assert!(rt; report.bytes() == UNCOUNTED_REPORT.as_bytes());
+    Ok(())
+}
+
+const SHARED_REPORT: &str =
+    "otsoft report 1\ttypology\nconstraints\t3\nconstraint\t1\tNoCoda\tNoCoda\nconstraint\t2\tMax\tMax\nconstraint\t3\tDep\tDep\ninputs\t2\ninput\t1\tpat\t2\nclass\t1.1\t1 0 0\tpat\nclass\t1.2\t0 1 0\tpa\ninput\t2\tku\t2\nclass\t2.1\t0 0 0\tku\nclass\t2.2\t1 0 0\tkut\nlanguages\t2\nlanguage\t1\t1 1\t2 3 | 1\nlanguage\t2\t2 1\t1 3 | 2\ncertificates\t1\ncertificate\t1\tLee\t2:2>1\ncuts\t2\ncut\t1\t1 2\t1\ncut\t2\t2 2\t1\nend\n";
 
 fn prefix(alloc: Global, classes: &[u16; 2]) -> Result<Prefix, NoMemory> {
     let first = Prefix::empty(alloc).child(ClassId(classes[0]))?;
@@ -185,12 +315,10 @@ fn cuts(alloc: Global, prefixes: &[[u16; 2]; 2]) -> Result<List<Cut>, NoMemory>
 #[test]
 fn a_certificate_that_two_cuts_name(rt: HostRuntime) -> Result<(), Fail> {
     let names = ["NoCoda", "Max", "Dep"];
-    let inputs = [
-        ("pat", [("pat", 1, [1, 0, 0]), ("pa", 0, [0, 1, 0])]),
-        ("ku", [("ku", 1, [0, 0, 0]), ("kut", 0, [1, 0, 0])]),
-    ];
     let alloc = rt.alloc();
-    let tableau = tableau(alloc, &names, &names, &inputs)?;
+    let pat = input(alloc, "pat", &[("pat", 1, [1, 0, 0]), ("pa", 0, [0, 1, 0])])?;
+    let ku = input(alloc, "ku", &[("ku", 1, [0, 0, 0]), ("kut", 0, [1, 0, 0])])?;
+    let tableau = tableau(alloc, &names, &names, pat, ku)?;
     let problem = Problem::of(alloc, &tableau)?;
     let mut terms = List::new(alloc);
     terms.push(Term {
@@ -214,122 +342,4 @@ fn a_certificate_that_two_cuts_name(rt: HostRuntime) -> Result<(), Fail> {
     let report = typology_text(alloc, &tableau, &problem, &typology)?;
     assert!(rt; report.bytes() == SHARED_REPORT.as_bytes());
     Ok(())
-}
-
-/// Reports of two constraints and one input, with the first line that does not fit, and 0 where all do.
-#[test]
-fn reports_that_fit_and_that_do_not(rt: HostRuntime) {
-    let table = [
-        (
-            "whole",
-            "otsoft report 1\ttypology\nconstraints\t2\nconstraint\t1\tNC\tNoCoda\nconstraint\t2\tM\t\ninputs\t1\ninput\t1\tpat\t2\nclass\t1.1\t1 0\tpat\tpat\nclass\t1.2\t0 10\tpa\nlanguages\t2\nlanguage\t1\t1\t2 | 1\nlanguage\t2\t2\t1 | 2\ncertificates\t1\ncertificate\t1\tLL\t1:1>2 1:2>1\ncuts\t1\ncut\t1\t-\t1\nend\n",
-            0,
-        ),
-        ("empty", "", 1),
-        (
-            "no last LF",
-            "otsoft report 1\ttypology\nconstraints\t2\nconstraint\t1\tNC\tNoCoda\nconstraint\t2\tM\t\ninputs\t1\ninput\t1\tpat\t2\nclass\t1.1\t1 0\tpat\tpat\nclass\t1.2\t0 10\tpa\nlanguages\t2\nlanguage\t1\t1\t2 | 1\nlanguage\t2\t2\t1 | 2\ncertificates\t1\ncertificate\t1\tLL\t1:1>2 1:2>1\ncuts\t1\ncut\t1\t-\t1\nend",
-            16,
-        ),
-        (
-            "end missing",
-            "otsoft report 1\ttypology\nconstraints\t2\nconstraint\t1\tNC\tNoCoda\nconstraint\t2\tM\t\ninputs\t1\ninput\t1\tpat\t2\nclass\t1.1\t1 0\tpat\tpat\nclass\t1.2\t0 10\tpa\nlanguages\t2\nlanguage\t1\t1\t2 | 1\nlanguage\t2\t2\t1 | 2\ncertificates\t1\ncertificate\t1\tLL\t1:1>2 1:2>1\ncuts\t1\ncut\t1\t-\t1\n",
-            16,
-        ),
-        (
-            "behind the end",
-            "otsoft report 1\ttypology\nconstraints\t2\nconstraint\t1\tNC\tNoCoda\nconstraint\t2\tM\t\ninputs\t1\ninput\t1\tpat\t2\nclass\t1.1\t1 0\tpat\tpat\nclass\t1.2\t0 10\tpa\nlanguages\t2\nlanguage\t1\t1\t2 | 1\nlanguage\t2\t2\t1 | 2\ncertificates\t1\ncertificate\t1\tLL\t1:1>2 1:2>1\ncuts\t1\ncut\t1\t-\t1\nend\n\n",
-            17,
-        ),
-        (
-            "leading zero",
-            "otsoft report 1\ttypology\nconstraints\t02\nconstraint\t1\tNC\tNoCoda\nconstraint\t2\tM\t\ninputs\t1\ninput\t1\tpat\t2\nclass\t1.1\t1 0\tpat\tpat\nclass\t1.2\t0 10\tpa\nlanguages\t2\nlanguage\t1\t1\t2 | 1\nlanguage\t2\t2\t1 | 2\ncertificates\t1\ncertificate\t1\tLL\t1:1>2 1:2>1\ncuts\t1\ncut\t1\t-\t1\nend\n",
-            2,
-        ),
-        (
-            "count too great",
-            "otsoft report 1\ttypology\nconstraints\t2\nconstraint\t1\tNC\tNoCoda\nconstraint\t2\tM\t\ninputs\t1\ninput\t1\tpat\t2\nclass\t1.1\t1 0\tpat\tpat\nclass\t1.2\t0 10\tpa\nlanguages\t268435457\nlanguage\t1\t1\t2 | 1\nlanguage\t2\t2\t1 | 2\ncertificates\t1\ncertificate\t1\tLL\t1:1>2 1:2>1\ncuts\t1\ncut\t1\t-\t1\nend\n",
-            9,
-        ),
-        (
-            "count not met",
-            "otsoft report 1\ttypology\nconstraints\t2\nconstraint\t1\tNC\tNoCoda\nconstraint\t2\tM\t\ninputs\t1\ninput\t1\tpat\t2\nclass\t1.1\t1 0\tpat\tpat\nclass\t1.2\t0 10\tpa\nlanguages\t1\nlanguage\t1\t1\t2 | 1\nlanguage\t2\t2\t1 | 2\ncertificates\t1\ncertificate\t1\tLL\t1:1>2 1:2>1\ncuts\t1\ncut\t1\t-\t1\nend\n",
-            11,
-        ),
-        (
-            "more than a count",
-            "otsoft report 1\ttypology\nconstraints\t2\nconstraint\t1\tNC\tNoCoda\nconstraint\t2\tM\t\ninputs\t1\ninput\t1\tpat\t2\nclass\t1.1\t1 0\tpat\tpat\nclass\t1.2\t0 10\tpa\nlanguages\t3\nlanguage\t1\t1\t2 | 1\nlanguage\t2\t2\t1 | 2\ncertificates\t1\ncertificate\t1\tLL\t1:1>2 1:2>1\ncuts\t1\ncut\t1\t-\t1\nend\n",
-            12,
-        ),
-        (
-            "stratum descends",
-            "otsoft report 1\ttypology\nconstraints\t2\nconstraint\t1\tNC\tNoCoda\nconstraint\t2\tM\t\ninputs\t1\ninput\t1\tpat\t2\nclass\t1.1\t1 0\tpat\tpat\nclass\t1.2\t0 10\tpa\nlanguages\t2\nlanguage\t1\t1\t2 1\nlanguage\t2\t2\t1 | 2\ncertificates\t1\ncertificate\t1\tLL\t1:1>2 1:2>1\ncuts\t1\ncut\t1\t-\t1\nend\n",
-            10,
-        ),
-        (
-            "stratum empty",
-            "otsoft report 1\ttypology\nconstraints\t2\nconstraint\t1\tNC\tNoCoda\nconstraint\t2\tM\t\ninputs\t1\ninput\t1\tpat\t2\nclass\t1.1\t1 0\tpat\tpat\nclass\t1.2\t0 10\tpa\nlanguages\t2\nlanguage\t1\t1\t2 |  | 1\nlanguage\t2\t2\t1 | 2\ncertificates\t1\ncertificate\t1\tLL\t1:1>2 1:2>1\ncuts\t1\ncut\t1\t-\t1\nend\n",
-            10,
-        ),
-        (
-            "constraint twice",
-            "otsoft report 1\ttypology\nconstraints\t2\nconstraint\t1\tNC\tNoCoda\nconstraint\t2\tM\t\ninputs\t1\ninput\t1\tpat\t2\nclass\t1.1\t1 0\tpat\tpat\nclass\t1.2\t0 10\tpa\nlanguages\t2\nlanguage\t1\t1\t2 | 1 2\nlanguage\t2\t2\t1 | 2\ncertificates\t1\ncertificate\t1\tLL\t1:1>2 1:2>1\ncuts\t1\ncut\t1\t-\t1\nend\n",
-            10,
-        ),
-        (
-            "constraint left out",
-            "otsoft report 1\ttypology\nconstraints\t2\nconstraint\t1\tNC\tNoCoda\nconstraint\t2\tM\t\ninputs\t1\ninput\t1\tpat\t2\nclass\t1.1\t1 0\tpat\tpat\nclass\t1.2\t0 10\tpa\nlanguages\t2\nlanguage\t1\t1\t2\nlanguage\t2\t2\t1 | 2\ncertificates\t1\ncertificate\t1\tLL\t1:1>2 1:2>1\ncuts\t1\ncut\t1\t-\t1\nend\n",
-            10,
-        ),
-        (
-            "no term",
-            "otsoft report 1\ttypology\nconstraints\t2\nconstraint\t1\tNC\tNoCoda\nconstraint\t2\tM\t\ninputs\t1\ninput\t1\tpat\t2\nclass\t1.1\t1 0\tpat\tpat\nclass\t1.2\t0 10\tpa\nlanguages\t2\nlanguage\t1\t1\t2 | 1\nlanguage\t2\t2\t1 | 2\ncertificates\t1\ncertificate\t1\tLL\t\ncuts\t1\ncut\t1\t-\t1\nend\n",
-            13,
-        ),
-        (
-            "loser is winner",
-            "otsoft report 1\ttypology\nconstraints\t2\nconstraint\t1\tNC\tNoCoda\nconstraint\t2\tM\t\ninputs\t1\ninput\t1\tpat\t2\nclass\t1.1\t1 0\tpat\tpat\nclass\t1.2\t0 10\tpa\nlanguages\t2\nlanguage\t1\t1\t2 | 1\nlanguage\t2\t2\t1 | 2\ncertificates\t1\ncertificate\t1\tLL\t1:1>1\ncuts\t1\ncut\t1\t-\t1\nend\n",
-            13,
-        ),
-        (
-            "class out of range",
-            "otsoft report 1\ttypology\nconstraints\t2\nconstraint\t1\tNC\tNoCoda\nconstraint\t2\tM\t\ninputs\t1\ninput\t1\tpat\t2\nclass\t1.1\t1 0\tpat\tpat\nclass\t1.2\t0 10\tpa\nlanguages\t2\nlanguage\t1\t3\t2 | 1\nlanguage\t2\t2\t1 | 2\ncertificates\t1\ncertificate\t1\tLL\t1:1>2 1:2>1\ncuts\t1\ncut\t1\t-\t1\nend\n",
-            10,
-        ),
-        (
-            "no member",
-            "otsoft report 1\ttypology\nconstraints\t2\nconstraint\t1\tNC\tNoCoda\nconstraint\t2\tM\t\ninputs\t1\ninput\t1\tpat\t2\nclass\t1.1\t1 0\tpat\tpat\nclass\t1.2\t0 10\nlanguages\t2\nlanguage\t1\t1\t2 | 1\nlanguage\t2\t2\t1 | 2\ncertificates\t1\ncertificate\t1\tLL\t1:1>2 1:2>1\ncuts\t1\ncut\t1\t-\t1\nend\n",
-            8,
-        ),
-        (
-            "CR in a text",
-            "otsoft report 1\ttypology\nconstraints\t2\nconstraint\t1\tNC\tNoCoda\nconstraint\t2\tM\t\ninputs\t1\ninput\t1\tpat\t2\nclass\t1.1\t1 0\tpat\tpat\nclass\t1.2\t0 10\tpa\r\nlanguages\t2\nlanguage\t1\t1\t2 | 1\nlanguage\t2\t2\t1 | 2\ncertificates\t1\ncertificate\t1\tLL\t1:1>2 1:2>1\ncuts\t1\ncut\t1\t-\t1\nend\n",
-            8,
-        ),
-        (
-            "certificate out of range",
-            "otsoft report 1\ttypology\nconstraints\t2\nconstraint\t1\tNC\tNoCoda\nconstraint\t2\tM\t\ninputs\t1\ninput\t1\tpat\t2\nclass\t1.1\t1 0\tpat\tpat\nclass\t1.2\t0 10\tpa\nlanguages\t2\nlanguage\t1\t1\t2 | 1\nlanguage\t2\t2\t1 | 2\ncertificates\t1\ncertificate\t1\tLL\t1:1>2 1:2>1\ncuts\t1\ncut\t1\t-\t2\nend\n",
-            15,
-        ),
-        (
-            "too many marks",
-            "otsoft report 1\ttypology\nconstraints\t2\nconstraint\t1\tNC\tNoCoda\nconstraint\t2\tM\t\ninputs\t1\ninput\t1\tpat\t2\nclass\t1.1\t1 0\tpat\tpat\nclass\t1.2\t0 10\tpa\nlanguages\t2\nlanguage\t1\t1\t2 | 1\nlanguage\t2\t2\t1 | 2\ncertificates\t1\ncertificate\t1\tLLe\t1:1>2\ncuts\t1\ncut\t1\t-\t1\nend\n",
-            13,
-        ),
-    ];
-    for (name, report, line) in table {
-        let bytes = report.as_bytes();
-        assert!(rt; bytes.len() <= REPORT_LIMIT, "of {name}");
-        let answer = match read_typology_text(rt.alloc(), bytes) {
-            Ok(typology) => {
-                assert_eq!(rt; typology.languages.len(), 2, "of {name}");
-                assert_eq!(rt; typology.certificates.len(), 1, "of {name}");
-                assert_eq!(rt; typology.cuts.len(), 1, "of {name}");
-                0
-            }
-            Err(TextError::BadLine(number)) => number,
-            Err(TextError::NoMemory) => 1_000,
-        };
-        assert_eq!(rt; answer, line, "of {name}");
-    }
 }

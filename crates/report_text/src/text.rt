@@ -1,7 +1,7 @@
 //! A text that grows at its end, by bytes, numbers and fields.
 
 ghost use Rattle.std.specs.Prelude.{◌≡◌, [], ◌∷◌, ◌++◌, OnOk, decimal, if◌then◌else◌};
-ghost use Rattle.report_text.specs.Spelling.{line};
+ghost use Rattle.report_text.specs.Spelling.{line, output};
 
 use erc_vectors::NoMemory;
 use itoa::Buffer;
@@ -45,20 +45,16 @@ impl Text {
     pub(crate) fn put(&mut self, bytes: &[u8]) -> Result<(), NoMemory>
         ensures { OnOk result (self.new ≡ self.old ++ bytes.now) }
     {
-        match self.bytes.extend_from_slice(bytes) {
-            Ok(()) => Ok(()),
-            Err(_) => Err(NoMemory),
-        }
+        self.bytes.extend_from_slice(bytes)?;
+        Ok(())
     }
 
     /// One byte.
     fn byte(&mut self, byte: u8) -> Result<(), NoMemory>
         ensures { OnOk result (self.new ≡ self.old ++ byte ∷ []) }
     {
-        match self.bytes.push(byte) {
-            Ok(()) => Ok(()),
-            Err(_) => Err(NoMemory),
-        }
+        self.bytes.push(byte)?;
+        Ok(())
     }
 
     /// A number in decimal.
@@ -104,6 +100,15 @@ impl Text {
     {
         self.put(b"\t")?;
         self.number(n)
+    }
+
+    /// A tab, and an input and a class of it by their numbers.
+    pub(crate) fn output_field(&mut self, i: usize, a: usize) -> Result<(), NoMemory>
+        ensures { OnOk result (self.new ≡ self.old ++ 9 ∷ output i a) }
+    {
+        self.number_field(i)?;
+        self.put(b".")?;
+        self.number(a)
     }
 
     /// A line with a word and a number.
