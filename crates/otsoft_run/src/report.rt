@@ -5,12 +5,12 @@ ghost use Rattle.ot_base.specs.Acceptable.{IsAcceptable};
 ghost use Rattle.ot_base.specs.Tableaus.{problem_of};
 ghost use Rattle.ot_theory.specs.Refutations.{is_contradicted};
 ghost use Rattle.typology_core.specs.declared.search.TheConstants.{PLACE_LIMIT};
-ghost use Rattle.otsoft_run.specs.Words.{IsWithinLimits};
+ghost use Rattle.command_words.specs.Words.{IsWithinLimits};
 ghost use Rattle.otsoft_run.specs.Answers.{IsReport, IsTypologyReport, IsRankReport, is_written, status_by, written_status};
 
 use crate::judging::Posed;
 use crate::status::Status;
-use crate::words::Settings;
+use command_words::Settings;
 use demotion::least_hierarchy;
 use erc_vectors::NoMemory;
 use ot_base::Label;
