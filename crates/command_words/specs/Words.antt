@@ -1,6 +1,6 @@
 -- What the words after the program's name ask for.
 use Rattle.std.specs.Prelude.{ℕ, ◌≤◌, ◌-◌, List, [], ◌∷◌, Bool, ◌&&◌, map, filter, length, drop, slice_index, ◌==◌, nat_lt, nat_le, bytes_eq, codes, option_map, option_and_then, unwrap_or, Option, Some, None, if◌then◌else◌, String, string_bytes, ⊤}
-use Rattle.std.specs.List.{before_first, after_first, position_or_len, list_all, list_any, slice_split}
+use Rattle.std.specs.List.{before_first, after_first, position_or_len, list_all, list_any, slice_split, range_with_len}
 use Rattle.std.specs.Char.{is_ascii_digit}
 use Rattle.std.specs.Str.Parse.{digits_value}
 use Rattle.std.specs.declared.alloc.Global.{Global}
@@ -86,6 +86,10 @@ all_read read (text ∷ texts) = option_and_then (λ item. option_map (λ items.
 -- a list of constraints: one or more, with one comma between two
 abbrev pub constraint_list : List ℕ → Option (List ConId)
 constraint_list text = all_read constraint (slice_split (λ c. c == 44) text)
+
+-- Of each of n constraints, whether a list of constraints names it. A number that is no constraint's names none.
+abbrev pub named : ℕ → List ConId → List Bool
+named n list = map (λ k. list_any (λ constraint. constraint.0 == k) list) (range_with_len 0 n)
 
 -- the values that an option was given
 abbrev pub values_of : List ℕ → List Given → List (List ℕ)

@@ -1,12 +1,12 @@
 //! Lists of constraints in words.
 
-ghost use Rattle.std.specs.Prelude.{◌≡◌, ◌==◌, IfOk, Some, None, Err, map};
+ghost use Rattle.std.specs.Prelude.{◌≡◌, ◌==◌, ◌++◌, ◌∷◌, [], ℕ, List, IfOk, Some, None, Err, map};
 ghost use Rattle.std.specs.List.{slice_split};
 ghost use Rattle.command_words.specs.Words as words_of;
 
 use crate::numbers::number_of;
 use crate::settings::WordsError;
-use erc_vectors::{ConId, List};
+use erc_vectors::{ConId, List, NoMemory};
 use std::alloc::{AllocError, Global};
 
 /// The constraints of a list: numbers from 1 to 128, each of 1 to 3 digits, with one comma between two. They are counted from 0.
@@ -25,6 +25,28 @@ pub(crate) fn constraints_of(alloc: Global, text: &str) -> Result<List<ConId>, W
         }
     }
     Ok(list)
+}
+
+/// Of each of n constraints, whether a list of constraints names it. Numbers from n on name none.
+pub fn named_flags(alloc: Global, n: usize, list: &[ConId]) -> Result<List<bool>, NoMemory>
+    ensures { IfOk result (λ flags. flags ≡ words_of.named n list.now) }
+{
+    let mut flags = vec![in alloc; false; n]?;
+    for constraint in list {
+        set_flag(flags.as_mut_slice(), *constraint);
+    }
+    Ok(List::from_vec(flags))
+}
+
+/// Sets the flag of a constraint, if it has one.
+fn set_flag(flags: &mut [bool], constraint: ConId)
+    ensures { (n : ℕ) (list : List ConId) → flags.old ≡ words_of.named n list → flags.new ≡ words_of.named n (list ++ constraint ∷ []) }
+{
+    let k = constraint.0 as usize;
+    if k >= flags.len() {
+        return;
+    }
+    flags[k] = true;
 }
 
 /// The texts between the commas.

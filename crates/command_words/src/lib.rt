@@ -9,5 +9,6 @@ mod numbers;
 mod settings;
 mod words;
 
+pub use constraint_list::named_flags;
 pub use settings::{FileName, Settings, WordsError};
 pub use words::settings_of;
