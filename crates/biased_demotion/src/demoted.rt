@@ -1,0 +1,27 @@
+ghost use Rattle.std.specs.Prelude.{◌≡◌, ◌≤◌, true, false, length, All, IfOk};
+ghost use Rattle.ot_theory.specs.Hierarchies.{Satisfies};
+ghost use Rattle.ot_theory.specs.Demotion.{AreLeftOpen};
+ghost use Rattle.ot_theory.specs.Refutations.{no_ranking_keeps};
+ghost use Rattle.demotion.specs.Outcomes.{IfRanked, IfStuck};
+ghost use Rattle.biased_demotion.specs.Biased.{IsBiased};
+
+use demotion::Demoted;
+use erc_vectors::{Condition, LIMIT, NoMemory};
+use std::alloc::Global;
+
+/// Biased demotion of conditions that are each of as many constraints as there are flags. A flag says of a constraint whether
+/// it is a faithfulness constraint; the others are markedness constraints. The set may be empty and may have repeats.
+///
+/// Ranked comes exactly where some ranking keeps the conditions, with the strata of the rule, which satisfy them. Stuck comes
+/// where none does, with the positions of the conditions that are left open, which are those that plain demotion leaves
+/// open.
+pub fn biased(alloc: Global, set: &[Condition], faith: &[bool]) -> Result<Demoted, NoMemory>
+    requires within { length faith.now ≤ LIMIT }
+    requires widths { All (λ marks. length marks ≡ length faith.now) set.now }
+    ensures kept { IfOk result (λ demoted. IfRanked demoted (λ levels. no_ranking_keeps (length faith.now) set.now ≡ false)) }
+    ensures strata { IfOk result (λ demoted. IfRanked demoted (λ levels. IsBiased faith.now set.now levels)) }
+    ensures satisfied { IfOk result (λ demoted. IfRanked demoted (λ levels. Satisfies (length faith.now) set.now levels)) }
+    ensures stuck { IfOk result (λ demoted. IfStuck demoted (λ positions. (no_ranking_keeps (length faith.now) set.now ≡ true) × AreLeftOpen (length faith.now) set.now positions)) }
+{
+    Err(NoMemory)
+}
