@@ -1,0 +1,3 @@
+pub mod Nodes
+pub mod Bases
+pub mod Laws
