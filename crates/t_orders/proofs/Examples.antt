@@ -1,0 +1,47 @@
+-- Worked examples: the implications of small problems.
+use Rattle.std.proofs.Common.{◌≡◌, ℕ, List, [], ◌∷◌, refl}
+use Rattle.refutation.specs.declared.implication.Implication.{Implication}
+use Rattle.ot_theory.specs.Rankings.{rankings, put_somewhere}
+use Rattle.ot_theory.specs.Problems.{Problem, input_of}
+use Rattle.ot_theory.proofs.Examples.{one_input, two_inputs, syllables}
+use Rattle.t_orders.specs.Implications.{Output, implication, is_possible, implies, implications}
+
+abbrev from_to : ℕ → ℕ → ℕ → ℕ → Implication
+from_to i a j b = implication (record { input = i; class = a }) (record { input = j; class = b })
+
+pub implications_of_two_inputs : implications two_inputs ≡
+    from_to 0 0 1 0 ∷ from_to 0 1 1 1 ∷ from_to 0 2 1 2 ∷ from_to 1 0 0 0 ∷ from_to 1 1 0 1 ∷ from_to 1 2 0 2 ∷ []
+unfolding rankings put_somewhere is_possible implies implications
+implications_of_two_inputs = refl
+
+pub implications_of_syllables : implications syllables ≡ []
+unfolding rankings put_somewhere is_possible implies implications
+implications_of_syllables = refl
+
+pub implications_of_one_input : implications one_input ≡ []
+unfolding rankings put_somewhere is_possible implies implications
+implications_of_one_input = refl
+
+-- two constraints; a compromise that no ranking makes optimal, and an input with one class alone
+abbrev compromise : Problem
+compromise = record {
+  constraints = 2;
+  inputs = input_of ((2 ∷ 0 ∷ []) ∷ (0 ∷ 2 ∷ []) ∷ (1 ∷ 1 ∷ []) ∷ []) [] ∷ input_of ((0 ∷ 0 ∷ []) ∷ []) [] ∷ [];
+}
+
+pub implications_of_compromise : implications compromise ≡ from_to 0 0 1 0 ∷ from_to 0 1 1 0 ∷ []
+unfolding rankings put_somewhere is_possible implies implications
+implications_of_compromise = refl
+
+-- three constraints; the first class of the first input implies that of the second, and not the other way round
+abbrev one_way : Problem
+one_way = record {
+  constraints = 3;
+  inputs =
+      input_of ((1 ∷ 0 ∷ 0 ∷ []) ∷ (0 ∷ 1 ∷ 0 ∷ []) ∷ (0 ∷ 0 ∷ 1 ∷ []) ∷ []) []
+      ∷ input_of ((1 ∷ 0 ∷ 0 ∷ []) ∷ (0 ∷ 1 ∷ 1 ∷ []) ∷ []) [] ∷ [];
+}
+
+pub implications_of_one_way : implications one_way ≡ from_to 0 0 1 0 ∷ []
+unfolding rankings put_somewhere is_possible implies implications
+implications_of_one_way = refl

@@ -1,0 +1,33 @@
+-- Laws of implications: they can be read off the languages.
+use Rattle.std.specs.Prelude.{◌≡◌, ℕ, ◌<◌, Bool, true, not, ◌||◌, ◌==◌, List, length, slice_index, Contains}
+use Rattle.std.specs.List.{list_any, list_all}
+use Rattle.ot_theory.specs.Rankings.{IsRanking}
+use Rattle.ot_theory.specs.Problems.{Problem}
+use Rattle.ot_theory.specs.Languages.{holds, languages}
+use Rattle.violation_profiles.specs.WellFormed.{IsWellFormed}
+use Rattle.t_orders.specs.Implications.{Output, is_possible, implies}
+
+-- the choice has this class at this input
+abbrev pub has : Output → List ℕ → Bool
+has output choice = slice_index choice output.input == output.class
+
+-- Under a ranking one language holds, and no other.
+pub record HoldsOneLanguage (problem : Problem) (order : List ℕ) : Type 0 where
+  pub language : List ℕ
+  pub listed : Contains (languages problem) language
+  pub agrees : holds problem order language ≡ true
+  pub only : (other : List ℕ) → Contains (languages problem) other → holds problem order other ≡ true → other ≡ language
+
+abbrev pub GivesOneLanguage : Problem → List ℕ → Type 0
+GivesOneLanguage problem order = IsWellFormed problem → IsRanking problem.constraints order → HoldsOneLanguage problem order
+
+-- Some ranking makes an output optimal exactly where a language has it.
+abbrev pub IsPossibleByLanguages : Problem → Output → Type 0
+IsPossibleByLanguages problem output =
+    IsWellFormed problem → output.input < length problem.inputs → is_possible problem output ≡ list_any (has output) (languages problem)
+
+-- One output implies another exactly where every language that has the one has the other.
+abbrev pub ImpliesByLanguages : Problem → Output → Output → Type 0
+ImpliesByLanguages problem from to =
+    IsWellFormed problem → from.input < length problem.inputs → to.input < length problem.inputs
+    → implies problem from to ≡ list_all (λ choice. not (has from choice) || has to choice) (languages problem)
