@@ -6,7 +6,7 @@ use Rattle.ot_theory.specs.Refutations.{is_contradiction}
 use Rattle.refutation.specs.declared.contradiction.Contradiction.{Contradiction}
 use Rattle.refutation.specs.Terms.{are_terms, terms_in}
 use Rattle.report_text.proofs.Genuine.{genuine-some, genuine-terms}
-use Rattle.otsoft_run.proofs.report.typology_report.Goals as goal
+use Rattle.otsoft_run.proofs.searches.typology_report.Goals as goal
 
 pub typology_text-requires-clause-some_term : goal.typology_text-requires-clause-some_term
 typology_text-requires-clause-some_term c =
