@@ -40,7 +40,11 @@ pub(crate) fn rank_report(alloc: Global, posed: &Posed) -> Result<Report, NoMemo
 
 /// The report of the hierarchy of the winners that keeps the named faithfulness constraints low, with its r-measure, or of why
 /// there is none. Numbers that are no constraint's are passed over.
-pub(crate) fn biased_report(alloc: Global, posed: &Posed, faith: &[ConId]) -> Result<Report, NoMemory>
+pub(crate) fn biased_report(
+    alloc: Global,
+    posed: &Posed,
+    faith: &[ConId],
+) -> Result<Report, NoMemory>
     requires poses { posed.now.problem ≡ problem_of posed.now.tableau }
     requires acceptable { IsAcceptable posed.now.tableau }
     ensures report { IfOk result (λ report. IsRankReport (Some faith.now) posed.now report.text) }

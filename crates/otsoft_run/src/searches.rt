@@ -14,7 +14,11 @@ use t_orders::implications;
 use typology_core::search_alone;
 
 /// The report of the languages, cuts and certificates of a tableau, found with so many places for contradictions.
-pub(crate) fn typology_report(alloc: Global, posed: &Posed, places: usize) -> Result<Label, NoMemory>
+pub(crate) fn typology_report(
+    alloc: Global,
+    posed: &Posed,
+    places: usize,
+) -> Result<Label, NoMemory>
     requires few { places ≤ PLACE_LIMIT }
     requires poses { posed.now.problem ≡ problem_of posed.now.tableau }
     ensures { IfOk result (λ report. IsTypologyReport posed.now report) }
