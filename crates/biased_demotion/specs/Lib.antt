@@ -1,2 +1,3 @@
 pub mod Biased
 pub mod Measure
+pub mod Shown

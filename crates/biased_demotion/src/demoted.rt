@@ -1,11 +1,12 @@
-ghost use Rattle.std.specs.Prelude.{◌≡◌, ◌≤◌, true, false, length, All, IfOk};
+ghost use Rattle.std.specs.Prelude.{◌≡◌, ◌≤◌, true, false, length, All, IfOk, OnErr};
 ghost use Rattle.ot_theory.specs.Hierarchies.{Satisfies};
 ghost use Rattle.ot_theory.specs.Demotion.{AreLeftOpen};
 ghost use Rattle.ot_theory.specs.Refutations.{no_ranking_keeps};
 ghost use Rattle.demotion.specs.Outcomes.{IfRanked, IfStuck};
 ghost use Rattle.biased_demotion.specs.Biased.{IsBiased};
 
-use demotion::Demoted;
+use crate::strata::biased_strata;
+use demotion::{Demoted, demote};
 use erc_vectors::{Condition, LIMIT, NoMemory};
 use std::alloc::Global;
 
@@ -14,7 +15,8 @@ use std::alloc::Global;
 ///
 /// Ranked comes exactly where some ranking keeps the conditions, with the strata of the rule, which satisfy them. Stuck comes
 /// where none does, with the positions of the conditions that are left open, which are those that plain demotion leaves
-/// open.
+/// open: whichever free constraints are placed first, the same conditions stay open. Only these positions take memory, so
+/// NoMemory comes only where no ranking keeps the conditions.
 pub fn biased(alloc: Global, set: &[Condition], faith: &[bool]) -> Result<Demoted, NoMemory>
     requires within { length faith.now ≤ LIMIT }
     requires widths { All (λ marks. length marks ≡ length faith.now) set.now }
@@ -22,6 +24,10 @@ pub fn biased(alloc: Global, set: &[Condition], faith: &[bool]) -> Result<Demote
     ensures strata { IfOk result (λ demoted. IfRanked demoted (λ levels. IsBiased faith.now set.now levels)) }
     ensures satisfied { IfOk result (λ demoted. IfRanked demoted (λ levels. Satisfies (length faith.now) set.now levels)) }
     ensures stuck { IfOk result (λ demoted. IfStuck demoted (λ positions. (no_ranking_keeps (length faith.now) set.now ≡ true) × AreLeftOpen (length faith.now) set.now positions)) }
+    ensures no_memory { OnErr result (no_ranking_keeps (length faith.now) set.now ≡ true) }
 {
-    Err(NoMemory)
+    match biased_strata(faith, set) {
+        Some(strata) => Ok(Demoted::Ranked(strata)),
+        None => demote(alloc, faith.len(), set),
+    }
 }

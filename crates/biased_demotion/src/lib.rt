@@ -7,7 +7,12 @@
 #![tactic(auto)]
 
 mod demoted;
+mod kinds;
 mod measure;
+mod next;
+mod strata;
+#[cfg(test)]
+mod tests;
 
 pub use demoted::biased;
 pub use measure::r_measure;
