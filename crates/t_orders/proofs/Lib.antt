@@ -1,1 +1,6 @@
 pub mod Examples
+pub mod Optima
+pub mod OneLanguage
+pub mod ReadOff
+pub mod Tables
+pub mod Listed

@@ -7,7 +7,14 @@
 //! off the languages, since under each ranking exactly one language holds, is proved in `laws`.
 #![tactic(auto)]
 
+mod laws;
 mod listing;
+mod row;
+mod seen;
+mod table;
+#[cfg(test)]
+mod tests;
 
+pub use laws::{implied_by_languages, one_language_for_each_ranking, possible_by_languages};
 pub use listing::implications;
 pub use refutation::Implication;
