@@ -3,9 +3,4 @@ pub mod Genuine
 pub mod Grown
 pub mod Posed
 pub mod Spaced
-pub mod Blocks
-pub mod Words
-pub mod Pieces
-pub mod Ranked
-pub mod Read
 pub mod Members

@@ -2,7 +2,7 @@
 
 ghost use Rattle.std.specs.Prelude.{◌≡◌, ◌∷◌, [], ◌++◌, length, slice_index_or, flat_map, map, OnOk};
 ghost use Rattle.ot_theory.specs.Hierarchies.{in_stratum};
-ghost use Rattle.report_text.specs.Spelling.{spaced, stratum, stratum_count, hierarchy};
+ghost use Rattle.report_text.specs.Spelling.{spaced, stratum, hierarchy};
 ghost use Rattle.report_text.specs.Reports as reports;
 
 use crate::text::Text;
@@ -13,7 +13,7 @@ use ot_base::Label;
 pub(crate) fn put_hierarchy(text: &mut Text, strata: &Strata) -> Result<(), NoMemory>
     ensures { OnOk result (text.new ≡ text.old ++ hierarchy strata.now) }
 {
-    for above in 0..greatest_level(strata) {
+    for above in 0..strata.lowest() {
         text.separator(above == 0, b" | ")?;
         put_stratum(text, strata, above + 1)?;
     }
@@ -29,7 +29,7 @@ pub(crate) fn put_strata(
     requires { length abbreviations.now ≡ length strata.now }
     ensures { OnOk result (text.new ≡ text.old ++ reports.strata_lines abbreviations.now strata.now) }
 {
-    let count = greatest_level(strata);
+    let count = strata.lowest();
     text.count_line(b"strata", count as usize)?;
     for above in 0..count {
         put_stratum_line(text, abbreviations, strata, above + 1)?;
@@ -86,15 +86,4 @@ fn put_stratum(text: &mut Text, strata: &Strata, level: u8) -> Result<(), NoMemo
         }
     }
     Ok(())
-}
-
-/// The number of the lowest stratum.
-fn greatest_level(strata: &Strata) -> u8
-    ensures { result ≡ stratum_count strata.now }
-{
-    let mut greatest = 0;
-    for c in 0..strata.width() {
-        greatest = greatest.max(strata.level(ConId(c as u16)));
-    }
-    greatest
 }

@@ -6,20 +6,13 @@
 //! the strata of a hierarchy with a tableau of each input whose rows mark the fatal violation of each loser, as tableaux are
 //! drawn since Prince and Smolensky (1993). The lines, their fields and their order are this project's own.
 //!
-//! The report of a typology is also read, by a grammar whose lines are judged from the first one on: `specs/Fields.antt` says
-//! what fields spell, `specs/Shapes.antt` what a line has, and `specs/Grammar.antt` which line may stand where.
+//! The report of a typology is read by `report_reader`, whose call stands here too.
 #![tactic(auto)]
 
 mod contradiction;
 mod head;
 mod hierarchy;
 mod rank;
-mod reading;
-mod reading_blocks;
-mod reading_fields;
-mod reading_lines;
-mod reading_misread;
-mod reading_pieces;
 mod tableaux;
 mod terms;
 #[cfg(test)]
@@ -30,5 +23,5 @@ mod winners;
 
 pub use contradiction::contradiction_text;
 pub use rank::rank_text;
-pub use reading::{REPORT_LIMIT, TextError, read_typology_text};
+pub use report_reader::{REPORT_LIMIT, TextError, read_typology_text};
 pub use typology::typology_text;

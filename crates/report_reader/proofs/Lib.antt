@@ -1,0 +1,5 @@
+pub mod LinesInTurn
+pub mod WordsInTurn
+pub mod MorePieces
+pub mod Ranked
+pub mod Read

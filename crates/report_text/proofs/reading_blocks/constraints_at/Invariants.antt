@@ -1,7 +1,0 @@
-use Rattle.std.proofs.Common.{◌≡◌, ◌+◌, ◌-◌}
-use Rattle.report_text.specs.Grammar.{tests_at}
-use Rattle.report_text.specs.Shapes.{is_constraint}
-use Rattle.report_text.proofs.reading_blocks.constraints_at.Given as goal
-
-abbrev pub invariant-loop-k : goal.invariant-loop-k
-invariant-loop-k l = tests_at is_constraint (l.k + 1) (l.count - l.k) l.rest ≡ tests_at is_constraint 1 l.count l.bytes

@@ -1,8 +1,0 @@
-use Rattle.report_text.specs.Fields.{words}
-use Rattle.report_text.proofs.Ranked.{placed_strata}
-use Rattle.report_text.proofs.reading_fields.ranked.Goals as goal
-
-pub returns-then-rank : goal.returns-then-rank
-returns-then-rank c =
-    placed_strata c.args.levels.now c.rank.new.levels (words c.args.field.now) c.of.result (rw c.if-rank.true at c.rank.ensures.fits) (c.rank.ensures.placed c.if-rank.true)
-    (rw c.rank.ensures.length c.requires) c.of.ensures.some c.of.ensures.none
