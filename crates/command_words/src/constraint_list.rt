@@ -1,6 +1,6 @@
 //! Lists of constraints in words.
 
-ghost use Rattle.std.specs.Prelude.{◌≡◌, ◌==◌, ◌++◌, ◌∷◌, [], ℕ, List, IfOk, Some, None, Err, map};
+ghost use Rattle.std.specs.Prelude.{◌≡◌, ◌==◌, ◌++◌, ◌∷◌, [], ℕ, List, IfOk, Some, None, Err, map, length};
 ghost use Rattle.std.specs.List.{slice_split};
 ghost use Rattle.command_words.specs.Words as words_of;
 
@@ -28,8 +28,10 @@ pub(crate) fn constraints_of(alloc: Global, text: &str) -> Result<List<ConId>, W
 }
 
 /// Of each of n constraints, whether a list of constraints names it. Numbers from n on name none.
+#[tactic(auto, using(crate::proofs::Named::length_named))]
 pub fn named_flags(alloc: Global, n: usize, list: &[ConId]) -> Result<List<bool>, NoMemory>
-    ensures { IfOk result (λ flags. flags ≡ words_of.named n list.now) }
+    ensures named { IfOk result (λ flags. flags ≡ words_of.named n list.now) }
+    ensures width { IfOk result (λ flags. length flags ≡ n) }
 {
     let mut flags = vec![in alloc; false; n]?;
     for constraint in list {

@@ -1,8 +1,8 @@
 -- A listing of covers has pairs of constraints.
-use Rattle.std.proofs.Common.{ℕ, ◌+◌, ◌<◌, ◌≤◌, List, [], ◌∷◌, map, arith}
+use Rattle.std.proofs.Common.{ℕ, ◌+◌, ◌<◌, ◌≤◌, zero, suc, List, map, arith}
 use Rattle.std.specs.Prelude.{All}
 use Rattle.std.specs.List.{range_with_len}
-use Rattle.std.proofs.lemmas.List.Elements.{All-weaker, All-filter, All-map}
+use Rattle.std.proofs.lemmas.List.Elements.{All-cons, All-weaker, All-filter, All-map}
 use Rattle.ot_theory.specs.declared.Mark.{Mark}
 use Rattle.ot_theory.specs.Rankings.{numbers_below}
 use Rattle.ot_theory.proofs.Classes.{All-flat_map}
@@ -10,8 +10,9 @@ use Rattle.hasse_listing.specs.Covers.{covers, is_cover, pair_of, pairs}
 use Rattle.report_text.specs.Listings.{IsPair}
 
 in_range : (a k n : ℕ) → a + k ≤ n → All (λ c. c < n) (range_with_len a k)
-in_range a zero n within = tt
-in_range a (suc k) n within = (omega (arith, within), in_range (a + 1) k n (omega (arith, within)))
+in_range a zero n within = λ k d h. absurd (omega (arith, h))
+in_range a (suc k) n within =
+    All-cons (λ (c : ℕ). c < n) a (range_with_len (a + 1) k) (omega (arith, within)) (in_range (a + 1) k n (omega (arith, within)))
 
 numbers-below : (n : ℕ) → All (λ c. c < n) (numbers_below n)
 numbers-below n = in_range 0 n n (omega arith)

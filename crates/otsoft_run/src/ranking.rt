@@ -6,13 +6,12 @@ ghost use Rattle.ot_base.specs.Tableaus.{problem_of};
 ghost use Rattle.ot_theory.specs.Refutations.{is_contradicted};
 ghost use Rattle.otsoft_run.specs.Answers.{IsRankReport, is_written, status_by};
 
+use crate::bias::{BiasedRanking, biased_ranking};
 use crate::contradicted::contradiction_report;
 use crate::judging::Posed;
 use crate::report::Report;
 use crate::status::Status;
-use biased_demotion::{biased, r_measure};
-use command_words::named_flags;
-use demotion::{Demoted, least_hierarchy};
+use demotion::least_hierarchy;
 use erc_vectors::{ConId, NoMemory};
 use refutation::{conditions_of, winner_terms};
 use report_text::rank_text;
@@ -54,15 +53,11 @@ pub(crate) fn biased_report(
     let (tableau, problem) = (&posed.tableau, &posed.problem);
     let terms = winner_terms(alloc, problem)?;
     let set = conditions_of(alloc, problem, terms.as_slice())?;
-    let flags = named_flags(alloc, problem.constraints(), faith)?;
-    match biased(alloc, set.as_slice(), flags.as_slice())? {
-        Demoted::Ranked(strata) => {
-            let measure = r_measure(&strata, flags.as_slice());
-            Ok(Report {
-                text: rank_text(alloc, tableau, problem, &strata, Some(measure))?,
-                status: Status::Done,
-            })
-        }
-        Demoted::Stuck(_) => contradiction_report(alloc, posed, "rank", terms.as_slice()),
+    match biased_ranking(alloc, problem.constraints(), set.as_slice(), faith)? {
+        Some(BiasedRanking { strata, measure }) => Ok(Report {
+            text: rank_text(alloc, tableau, problem, &strata, Some(measure))?,
+            status: Status::Done,
+        }),
+        None => contradiction_report(alloc, posed, "rank", terms.as_slice()),
     }
 }
