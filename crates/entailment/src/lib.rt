@@ -6,9 +6,15 @@
 #![tactic(auto)]
 
 ghost use Rattle.std.specs.Prelude.{◌≡◌, All, IfOk, length};
+ghost use Rattle.std.specs.List.{list_all};
+ghost use Rattle.ot_theory.specs.Conditions.{is_even};
 ghost use Rattle.ot_theory.specs.Entailment.{entails};
 
-use erc_vectors::{Condition, NoMemory};
+#[cfg(test)]
+mod tests;
+
+use demotion::is_hopeless;
+use erc_vectors::{Condition, List, NoMemory};
 use std::alloc::Global;
 
 /// Whether a set of conditions entails a condition over as many constraints: each ranking that keeps the set keeps the
@@ -18,5 +24,17 @@ pub fn entails(alloc: Global, set: &[Condition], c: &Condition) -> Result<bool, 
     requires { All (λ marks. length marks ≡ length c.now) set.now }
     ensures { IfOk result (λ entailed. entailed ≡ entails (length c.now) set.now c.now) }
 {
-    Err(NoMemory)
+    if is_even(c) {
+        return Ok(true);
+    }
+    let mut asked = List::of(alloc, set)?;
+    asked.push(c.negated())?;
+    Ok(is_hopeless(c.width(), asked.as_slice()))
+}
+
+/// Whether all marks are e.
+fn is_even(c: &Condition) -> bool
+    ensures { result ≡ list_all is_even c.now }
+{
+    c.w_mask() == 0 && c.l_mask() == 0
 }

@@ -1,0 +1,4 @@
+pub mod Places
+pub mod Pairs
+pub mod HeldBack
+pub mod Listed

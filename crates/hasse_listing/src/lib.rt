@@ -8,6 +8,9 @@
 #![tactic(auto)]
 
 mod listing;
+mod necessary;
+#[cfg(test)]
+mod tests;
 
 pub use erc_vectors::Cover;
 pub use listing::covers;
