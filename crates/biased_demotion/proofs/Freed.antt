@@ -1,9 +1,8 @@
 -- How many markedness constraints a constraint makes free that is placed alone, by masks as by the numbers.
-use Rattle.std.proofs.Common.{◌≡◌, ◌≢◌, ℕ, zero, suc, ◌+◌, ◌-◌, ◌^◌, ◌<◌, ◌≤◌, min, max, ◌⊎◌, List, Bool, true, false, not, ◌&&◌, ◌||◌, ◌==◌, cond, length, get_or, slice_index, arith, refl, sym, ap, ◌∙◌, inl, inr}
+use Rattle.std.proofs.Common.{◌≡◌, ◌≢◌, ℕ, zero, suc, ◌-◌, ◌^◌, ◌<◌, ◌≤◌, min, max, ◌⊎◌, List, Bool, true, false, not, ◌&&◌, ◌||◌, ◌==◌, cond, length, slice_index, arith, refl, sym, ap, ◌∙◌, inl, inr}
 use Rattle.std.specs.Prelude.{bit_and, bit_or, nat_lt, All, count_by, count_ones, slice_set}
 use Rattle.std.specs.Int.{bit_at, bit_not, w64}
 use Rattle.std.proofs.lemmas.Bool.Decides.{eqb_tells}
-use Rattle.std.proofs.lemmas.Bool.{cases_lt}
 use Rattle.std.proofs.lemmas.List.{get_or_past, get_or-set_same, get_or-set_other}
 use Rattle.std.proofs.lemmas.List.Sums.{length-filter}
 use Rattle.std.proofs.lemmas.Nat.{or_lt}
@@ -12,7 +11,7 @@ use Rattle.ot_theory.specs.declared.Mark.{Mark}
 use Rattle.ot_theory.specs.Rankings.{numbers_below}
 use Rattle.ot_theory.specs.Demotion.{is_blocked}
 use Rattle.demotion.specs.Placed.{levels_of, has_bit}
-use Rattle.demotion.proofs.Masked.{level-bit, flagged}
+use Rattle.demotion.proofs.Masked.{level-bit}
 use Rattle.biased_demotion.specs.Biased.{is_markedness, is_free, freed}
 use Rattle.biased_demotion.specs.Shown.{Shows, freed_in}
 use Rattle.biased_demotion.proofs.Shown.{min_bits, Shows-has_bit, one_more, ones_below, count_wider}

@@ -5,3 +5,5 @@ pub mod Freed
 pub mod Greatest
 pub mod Stratum
 pub mod Rounds
+pub mod Unique
+pub mod Examples

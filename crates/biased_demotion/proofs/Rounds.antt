@@ -1,22 +1,20 @@
 -- Biased demotion in rounds: its strata are those of the rule, they satisfy the conditions, and where it stops too early no
 -- ranking keeps them.
-use Rattle.std.proofs.Common.{◌≡◌, ◌≢◌, ◌⊎◌, ℕ, zero, suc, ◌+◌, ◌^◌, ◌<◌, ◌≤◌, max, List, [], ◌∷◌, Bool, true, false, not, ◌&&◌, ◌==◌, cond, length, map, get_or, slice_index, arith, refl, sym, ap, ◌∙◌, inl, inr}
+use Rattle.std.proofs.Common.{◌≡◌, ◌≢◌, ℕ, zero, suc, ◌+◌, ◌^◌, ◌<◌, ◌≤◌, max, List, [], ◌∷◌, Bool, true, false, not, ◌&&◌, ◌==◌, cond, length, map, get_or, slice_index, arith, refl, sym, ap, ◌∙◌, inl, inr}
 use Rattle.std.specs.Prelude.{All, Contains, nat_lt, filter, fold}
-use Rattle.std.specs.List.{list_any}
 use Rattle.std.proofs.lemmas.Bool.{cases_lt, cases_Bool, and_parts, and_from, lt-ltb, le-ltb, ne_eqb, eq-eqb, not-true}
 use Rattle.std.proofs.lemmas.Bool.Decides.{eqb_tells}
-use Rattle.std.proofs.lemmas.List.{get_or_past, get_or_default, get_or-map, length-map, ext_get_or}
+use Rattle.std.proofs.lemmas.List.{get_or_past, get_or-map, length-map, ext_get_or}
 use Rattle.std.proofs.lemmas.List.FromFn.{get_or-map-range_with_len}
 use Rattle.std.proofs.lemmas.List.Folds.{list_any_at}
 use Rattle.ot_theory.specs.declared.Mark.{Mark}
-use Rattle.ot_theory.specs.declared.Mark.TheVariants.{W, L, E}
+use Rattle.ot_theory.specs.declared.Mark.TheVariants.{L, E}
 use Rattle.ot_theory.specs.Rankings.{numbers_below}
 use Rattle.ot_theory.specs.Conditions.{mark_at, is_loss}
 use Rattle.ot_theory.specs.Hierarchies.{Satisfies, in_stratum}
 use Rattle.ot_theory.specs.Demotion.{is_closed, is_blocked, level_after}
 use Rattle.ot_theory.specs.Refutations.{no_ranking_keeps}
 use Rattle.ot_theory.proofs.Strata.{mark_at-within, WinAbove, satisfied-WinAbove}
-use Rattle.ot_theory.proofs.Orders.{kept-satisfied}
 use Rattle.ot_theory.proofs.Members.{filter_below}
 use Rattle.ot_theory.proofs.Demotion.{PlacedWin, IsGuarded, closed-placed, hopeless-blocked}
 use Rattle.demotion.specs.Placed.{has_bit}

@@ -1,10 +1,10 @@
 -- Sets of constraints as bits of a mask.
-use Rattle.std.proofs.Common.{◌≡◌, ◌≢◌, ◌⊎◌, ℕ, zero, suc, ◌+◌, ◌-◌, ◌^◌, ◌<◌, ◌≤◌, min, max, List, [], ◌∷◌, Bool, true, false, not, ◌&&◌, ◌||◌, ◌==◌, cond, length, map, get_or, arith, refl, sym, ap, ◌∙◌, inl, inr, below_more}
-use Rattle.std.specs.Prelude.{bit_and, bit_or, count_ones, nat_lt, filter, count_by}
+use Rattle.std.proofs.Common.{◌≡◌, ◌≢◌, ℕ, zero, suc, ◌+◌, ◌^◌, ◌<◌, ◌≤◌, min, max, List, [], Bool, true, false, ◌&&◌, ◌||◌, ◌==◌, cond, length, map, arith, refl, sym, ap, ◌∙◌, inl, inr, below_more}
+use Rattle.std.specs.Prelude.{bit_and, bit_or, count_ones, filter, count_by}
 use Rattle.std.specs.List.{range_with_len}
 use Rattle.std.specs.Simd.Lanes.{mask_l}
 use Rattle.std.specs.Int.{bit_at, w64, trailing_zeros}
-use Rattle.std.proofs.lemmas.Bool.{cases_lt, cases_Bool}
+use Rattle.std.proofs.lemmas.Bool.{cases_lt}
 use Rattle.std.proofs.lemmas.Bool.Decides.{eqb_tells}
 use Rattle.std.proofs.lemmas.List.{get_or_past}
 use Rattle.std.proofs.lemmas.List.FromFn.{length-map-range_with_len, get_or-map-range_with_len}

@@ -15,7 +15,7 @@ use Rattle.ot_theory.proofs.LeftOpen.{of_range, in_range}
 use Rattle.ot_theory.proofs.Members.{filter_below}
 use Rattle.demotion.specs.Placed.{levels_of, has_bit}
 use Rattle.demotion.proofs.Masked.{blocked-same, placed-same, flagged}
-use Rattle.biased_demotion.specs.Biased.{is_faithfulness, is_markedness, is_free, has_open_win, is_active, active_faithfulness, freed, IsMostFreeing, IsNext}
+use Rattle.biased_demotion.specs.Biased.{is_faithfulness, is_markedness, is_free, has_open_win, is_active, freed, IsNext}
 use Rattle.biased_demotion.specs.Biased.IsNext.{FreeMarkedness, OneFaithfulness, ActiveFaithfulness, AllFree}
 use Rattle.biased_demotion.specs.Shown.{Shows, freed_in, IsFirstGreatest}
 use Rattle.biased_demotion.proofs.Shown.{filter_none, min_bits, Shows-has_bit, Shows-and, Shows-none, Shows-some, none_left, some_left, listed}

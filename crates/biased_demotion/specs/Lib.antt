@@ -1,3 +1,4 @@
 pub mod Biased
 pub mod Measure
 pub mod Shown
+pub mod Laws

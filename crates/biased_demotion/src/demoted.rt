@@ -13,10 +13,16 @@ use std::alloc::Global;
 /// Biased demotion of conditions that are each of as many constraints as there are flags. A flag says of a constraint whether
 /// it is a faithfulness constraint; the others are markedness constraints. The set may be empty and may have repeats.
 ///
-/// Ranked comes exactly where some ranking keeps the conditions, with the strata of the rule, which satisfy them. Stuck comes
-/// where none does, with the positions of the conditions that are left open, which are those that plain demotion leaves
-/// open: whichever free constraints are placed first, the same conditions stay open. Only these positions take memory, so
-/// NoMemory comes only where no ranking keeps the conditions.
+/// A constraint is free where it is not placed and no open condition has L at it, and open are the conditions with an L none of
+/// whose W's is placed. Each stratum is what the first of these gives that gives something: all free markedness constraints;
+/// of the free faithfulness constraints with a W in an open condition the one that, placed alone, makes the greatest number of
+/// unplaced markedness constraints free, if it makes any free, and the first in order of those that make as many free; all
+/// free faithfulness constraints with a W in an open condition; all free constraints.
+///
+/// Ranked comes exactly where some ranking keeps the conditions, with the strata of these rules, which satisfy them. Stuck
+/// comes where none does, with the positions of the conditions that plain demotion leaves open too: ascending, the greatest
+/// part of the set whose conditions each have an L and whose fusion has no W. Only these positions take memory, so NoMemory
+/// comes only where no ranking keeps the conditions.
 pub fn biased(alloc: Global, set: &[Condition], faith: &[bool]) -> Result<Demoted, NoMemory>
     requires within { length faith.now ≤ LIMIT }
     requires widths { All (λ marks. length marks ≡ length faith.now) set.now }

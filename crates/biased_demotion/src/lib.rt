@@ -8,6 +8,7 @@
 
 mod demoted;
 mod kinds;
+mod laws;
 mod measure;
 mod next;
 mod strata;
@@ -15,4 +16,5 @@ mod strata;
 mod tests;
 
 pub use demoted::biased;
+pub use laws::one_hierarchy;
 pub use measure::r_measure;

@@ -1,4 +1,4 @@
-use Rattle.std.proofs.Common.{◌≡◌, Bool, true, false, not, arith, ap, sym, ◌∙◌, get_or}
+use Rattle.std.proofs.Common.{◌≡◌, true, false, not, arith, ap, ◌∙◌, get_or}
 use Rattle.std.proofs.lemmas.List.{get_or_past, get_or_default}
 use Rattle.biased_demotion.specs.Biased.{is_faithfulness, is_markedness}
 use Rattle.biased_demotion.proofs.Shown.{IsShownBelow-none, IsShownBelow-in, IsShownBelow-out, IsShownBelow-whole}

@@ -1,4 +1,4 @@
-use Rattle.std.proofs.Common.{◌≡◌, ℕ, Bool, true, false, arith, ap, sym, ◌∙◌, slice_index}
+use Rattle.std.proofs.Common.{ℕ, Bool, arith, ap, slice_index}
 use Rattle.std.specs.Prelude.{nat_lt}
 use Rattle.std.proofs.lemmas.Bool.{lt-ltb, le-ltb}
 use Rattle.std.proofs.lemmas.List.{get_or_past}

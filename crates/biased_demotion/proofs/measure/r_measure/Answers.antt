@@ -1,5 +1,4 @@
-use Rattle.std.proofs.Common.{◌≡◌, ◌+◌, ℕ, Bool, true, false, cond, arith, ap, sym, ◌∙◌, get_or, refl}
-use Rattle.std.proofs.lemmas.List.{get_or_default}
+use Rattle.std.proofs.Common.{◌≡◌, true, false, cond, arith, refl}
 use Rattle.biased_demotion.specs.Biased.{is_faithfulness}
 use Rattle.biased_demotion.specs.Measure.{markedness_above}
 use Rattle.biased_demotion.proofs.Measured.{sum_more}

@@ -1,4 +1,4 @@
-use Rattle.std.proofs.Common.{◌≡◌, ◌<◌, ◌≤◌, ◌∙◌, ℕ, Bool, true, false, sym, ap, arith}
+use Rattle.std.proofs.Common.{◌≡◌, ◌∙◌, ℕ, Bool, true, false, sym, arith}
 use Rattle.demotion.specs.Placed.{has_bit}
 use Rattle.biased_demotion.specs.Shown.{freed_in}
 use Rattle.biased_demotion.proofs.Greatest.{IsGreatestSoFar-none, IsGreatestSoFar-kept, IsGreatestSoFar-more, found_greatest, found_none}
