@@ -1,10 +1,10 @@
 -- Worked examples: the implications of small problems.
-use Rattle.std.proofs.Common.{◌≡◌, ℕ, List, [], ◌∷◌, refl}
+use Rattle.std.proofs.Common.{◌≡◌, ℕ, [], ◌∷◌, refl}
 use Rattle.refutation.specs.declared.implication.Implication.{Implication}
 use Rattle.ot_theory.specs.Rankings.{rankings, put_somewhere}
 use Rattle.ot_theory.specs.Problems.{Problem, input_of}
 use Rattle.ot_theory.proofs.Examples.{one_input, two_inputs, syllables}
-use Rattle.t_orders.specs.Implications.{Output, implication, is_possible, implies, implications}
+use Rattle.t_orders.specs.Implications.{implication, is_possible, implies, implications}
 
 abbrev from_to : ℕ → ℕ → ℕ → ℕ → Implication
 from_to i a j b = implication (record { input = i; class = a }) (record { input = j; class = b })

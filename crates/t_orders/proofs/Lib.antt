@@ -4,3 +4,4 @@ pub mod OneLanguage
 pub mod ReadOff
 pub mod Tables
 pub mod Listed
+pub mod Choosing

@@ -4,8 +4,8 @@ use Rattle.std.specs.Prelude.{nat_lt}
 use Rattle.std.specs.List.{list_all, list_any, range_with_len}
 use Rattle.std.proofs.lemmas.Bool.{and_parts, and_from, cases_lt, cases_eq, lt-ltb, le-ltb, ltb-true, or_cases, or_left, or_right, eqb-true, eq-eqb}
 use Rattle.std.proofs.lemmas.Bool.Decides.{eqb_tells}
-use Rattle.ot_theory.specs.Rankings.{better, optimal, numbers_below, IsRanking, count_of}
-use Rattle.ot_theory.proofs.Optimal.{Differ, AreClasses}
+use Rattle.ot_theory.specs.Rankings.{better, optimal, IsRanking, count_of}
+use Rattle.ot_theory.proofs.Optimal.{AreClasses}
 use Rattle.ot_theory.proofs.Enumeration.{count_past}
 
 -- ---- tests over the numbers below

@@ -1,8 +1,8 @@
 -- What can be read off the languages: which outputs are possible, and which imply which.
-use Rattle.std.proofs.Common.{◌≡◌, ℕ, ◌<◌, List, [], ◌∷◌, Bool, true, false, not, ◌||◌, ◌&&◌, ◌==◌, arith, refl, sym, ◌∙◌, ap, inl, inr, length, slice_index}
+use Rattle.std.proofs.Common.{◌≡◌, ℕ, ◌<◌, List, [], ◌∷◌, Bool, true, false, not, ◌||◌, ◌&&◌, arith, refl, sym, ◌∙◌, ap, length, slice_index}
 use Rattle.std.specs.List.{list_any, list_all}
-use Rattle.std.proofs.lemmas.Bool.{and_parts, and_from, not-true, cases_Bool, eq-eqb, eqb-true}
-use Rattle.ot_theory.specs.Rankings.{optimal, IsRanking, rankings}
+use Rattle.std.proofs.lemmas.Bool.{eq-eqb, eqb-true}
+use Rattle.ot_theory.specs.Rankings.{optimal, rankings}
 use Rattle.ot_theory.specs.Problems.{Problem}
 use Rattle.ot_theory.specs.Languages.{holds, languages, classes_at}
 use Rattle.ot_theory.proofs.Enumeration.{any-ranking, ranking-found}

@@ -1,4 +1,4 @@
-ghost use Rattle.std.specs.Prelude.{◌≡◌, ◌≤◌, ◌∷◌, ◌++◌, [], true, false, flat_map, length, map, IfOk, OnOk, MatchOption};
+ghost use Rattle.std.specs.Prelude.{◌≡◌, ◌≤◌, ◌∷◌, ◌++◌, [], true, false, not, filter, flat_map, length, map, IfOk, OnOk, MatchOption};
 ghost use Rattle.ot_base.specs.Acceptable.{IsRow, AreRows};
 ghost use Rattle.ot_theory.specs.Hierarchies.{IsLeastHierarchy};
 ghost use Rattle.ot_theory.specs.Languages as theory;
@@ -13,7 +13,7 @@ use crate::implications;
 use demotion::least_hierarchy;
 use erc_vectors::{List, NoMemory, Strata};
 use ot_base::{CandidateRow, ClassId, InId, InputRows, Label, Tableau};
-use refutation::{Language, Prefix, conditions_of, terms_of};
+use refutation::{Language, Prefix, conditions_of, is_prefix, terms_of};
 use std::alloc::Global;
 use std::test::Fail;
 use violation_profiles::Problem;
@@ -161,15 +161,36 @@ fn least_of(alloc: Global, p: &Problem, classes: &[ClassId]) -> Result<Option<St
     Ok(least_hierarchy(p.constraints(), conditions.as_slice()))
 }
 
+/// Adds a choice, if some ranking makes it. A list that is no choice of the problem is answered as want of memory is.
+fn add_language(
+    alloc: Global,
+    p: &Problem,
+    languages: &mut Vec<Language>,
+    choice: &Prefix,
+) -> Result<(), NoMemory>
+    ensures { OnOk result (map (λ language. language.0) (found_of languages.new.items)
+        ≡ map (λ language. language.0) (found_of languages.old.items) ++ filter (λ choice. not (refuted p.now choice)) (choice.now ∷ [])) }
+{
+    if !is_prefix(p, choice.as_slice()) {
+        return Err(NoMemory);
+    }
+    match least_of(alloc, p, choice.as_slice())? {
+        Some(strata) => {
+            let choice = choice.copy()?;
+            put(languages, Language { choice, strata })
+        }
+        None => Ok(()),
+    }
+}
+
 /// The languages of a problem: its choices, without those that no ranking makes.
 fn languages(alloc: Global, p: &Problem) -> Result<Vec<Language>, NoMemory>
     ensures { IfOk result (λ languages. AreLanguages p.now (found_of languages.items)) }
 {
+    let all = choices(alloc, p)?;
     let mut languages = Vec::new(alloc);
-    for choice in choices(alloc, p)? {
-        if let Some(strata) = least_of(alloc, p, choice.as_slice())? {
-            put(&mut languages, Language { choice, strata })?;
-        }
+    for choice in &all {
+        add_language(alloc, p, &mut languages, choice)?;
     }
     Ok(languages)
 }

@@ -1,5 +1,5 @@
 use Rattle.std.proofs.Common.{◌≡◌, ℕ, List, All, ◌≤◌, ◌∙◌, ◌++◌, ap, arith, flat_map, length, sym, subst}
-use Rattle.ot_base.specs.declared.limits.TheConstants.{CANDIDATE_LIMIT, INPUT_LIMIT}
+use Rattle.ot_base.specs.declared.limits.TheConstants.{INPUT_LIMIT}
 use Rattle.ot_theory.specs.Rankings.{numbers_below}
 use Rattle.ot_theory.specs.Languages.{classes_at, languages}
 use Rattle.t_orders.specs.declared.seen.Seen.{Seen}

@@ -1,4 +1,4 @@
-use Rattle.std.proofs.Common.{arith, length, ◌+◌, refl}
+use Rattle.std.proofs.Common.{arith, length, refl}
 use Rattle.ot_theory.specs.Languages.{classes_at}
 use Rattle.t_orders.proofs.Tables.{chosen, class-at, class-within, row-long, table-end, table-start, table-step}
 use Rattle.t_orders.proofs.table.table_of.Goals as goal
