@@ -3,7 +3,13 @@
 #![tactic(auto)]
 
 #[cfg(test)]
+mod biases;
+#[cfg(test)]
+mod cases;
+#[cfg(test)]
 mod faults;
+#[cfg(test)]
+mod listings;
 #[cfg(test)]
 mod outside;
 #[cfg(test)]

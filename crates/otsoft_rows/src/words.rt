@@ -2,7 +2,7 @@ ghost use Rattle.std.specs.Prelude.{None};
 
 use crate::outside::{Outside, owned, run_on};
 use crate::reports::CODA;
-use erc_vectors::List;
+use erc_vectors::{ConId, List};
 use ot_base::{Failed, Files, MemSink};
 use otsoft_run::{Settings, Status, WordsError, run, settings_of};
 use std::test::Fail;
@@ -15,9 +15,15 @@ enum Asked {
         workers: usize,
         places: usize,
     },
-    Rank {
-        file: &'static str,
+    Torder {
+        workers: usize,
+        places: usize,
     },
+    Rank {
+        faith: Option<&'static [u16]>,
+    },
+    Bases,
+    Hasse,
     Bad,
 }
 
@@ -30,6 +36,16 @@ fn typology(workers: usize, places: usize) -> Asked {
     }
 }
 
+/// The implications of the file `A`.
+fn torder(workers: usize, places: usize) -> Asked {
+    Asked::Torder { workers, places }
+}
+
+/// The ranking of the file `A` with these faithfulness constraints.
+fn faith(named: &'static [u16]) -> Asked {
+    Asked::Rank { faith: Some(named) }
+}
+
 /// A typology without options.
 fn plain(file: &'static str) -> Asked {
     Asked::Typology {
@@ -39,33 +55,60 @@ fn plain(file: &'static str) -> Asked {
     }
 }
 
-/// Whether the answer is what was asked for.
+/// Whether these constraints are named, counted from 0.
+fn are_named(faith: &Option<List<ConId>>, named: Option<&[u16]>) -> bool {
+    match (faith, named) {
+        (Some(faith), Some(named)) => {
+            faith.len() == named.len() && faith.as_slice().iter().zip(named).all(|(c, k)| c.0 == *k)
+        }
+        (None, None) => true,
+        _ => false,
+    }
+}
+
+/// Whether the answer is what was asked for, of the file `A` where no other is named.
 fn is_asked(answer: &Result<Settings, WordsError>, asked: &Asked) -> bool {
-    match (answer, asked) {
+    let settings = match answer {
+        Ok(settings) => settings,
+        Err(error) => return *error == WordsError::Bad && matches!(asked, Asked::Bad),
+    };
+    match (settings, asked) {
         (
-            Ok(
-                Settings::Typology {
-                    file,
-                    workers,
-                    places,
-                },
-            ),
+            Settings::Typology {
+                file,
+                workers,
+                places,
+            },
             Asked::Typology {
                 file: name,
                 workers: count,
                 places: room,
             },
-        ) => { file.as_str() == *name && workers == count && places == room }
-        (Ok(Settings::Rank { file }), Asked::Rank { file: name }) => file.as_str() == *name,
-        (Err(WordsError::Bad), Asked::Bad) => true,
+        ) => file.as_str() == *name && workers == count && places == room,
+        (
+            Settings::Torder {
+                file,
+                workers,
+                places,
+            },
+            Asked::Torder {
+                workers: count,
+                places: room,
+            },
+        ) => file.as_str() == "A" && workers == count && places == room,
+        (Settings::Rank { file, faith }, Asked::Rank { faith: named }) => {
+            file.as_str() == "A" && are_named(faith, *named)
+        }
+        (Settings::Bases { file }, Asked::Bases) => file.as_str() == "A",
+        (Settings::Hasse { file }, Asked::Hasse) => file.as_str() == "A",
         _ => false,
     }
 }
 
 #[test]
 fn words_give_their_settings(rt: HostRuntime) -> Result<(), Fail> {
-    let rank = Asked::Rank { file: "A" };
-    let rows: [(&str, &[&str], Asked); 19] = [
+    let rank = Asked::Rank { faith: None };
+    let rows: [(&str, &[&str], Asked); 33] = [
         ("no option", &["typology", "A"], plain("A")),
         ("a ranking", &["rank", "A"], rank),
         ("a file of no name", &["typology", ""], plain("")),
@@ -125,6 +168,56 @@ fn words_give_their_settings(rt: HostRuntime) -> Result<(), Fail> {
             &["--workers=2", "--", "typology", "A"],
             typology(2, 1_024),
         ),
+        ("bases", &["bases", "A"], Asked::Bases),
+        ("covers", &["hasse", "A"], Asked::Hasse),
+        ("implications", &["torder", "A"], torder(1, 1_024)),
+        (
+            "implications with both options",
+            &["torder", "--workers=64", "A", "--store", "0"],
+            torder(64, 0),
+        ),
+        (
+            "one constraint",
+            &["rank", "A", "--faith", "1"],
+            faith(&[0]),
+        ),
+        (
+            "the last number",
+            &["rank", "A", "--faith=128"],
+            faith(&[127]),
+        ),
+        (
+            "one digit of three",
+            &["rank", "A", "--faith", "001"],
+            faith(&[0]),
+        ),
+        (
+            "zeros in front",
+            &["rank", "A", "--faith=007,7"],
+            faith(&[6, 6]),
+        ),
+        (
+            "numbers in their order",
+            &["rank", "--faith", "3,1,2", "A"],
+            faith(&[2, 0, 1]),
+        ),
+        (
+            "a repeat",
+            &["rank", "--faith", "2,2,2", "A"],
+            faith(&[1, 1, 1]),
+        ),
+        (
+            "two and three digits",
+            &["--faith=10,100,99", "rank", "A"],
+            faith(&[9, 99, 98]),
+        ),
+        (
+            "a list before the dashes",
+            &["rank", "--faith=4", "--", "A"],
+            faith(&[3]),
+        ),
+        ("bases behind dashes", &["--", "bases", "A"], Asked::Bases),
+        ("covers behind dashes", &["hasse", "--", "A"], Asked::Hasse),
     ];
     for (name, words, asked) in &rows {
         let words = owned(rt.alloc(), words)?;
@@ -136,7 +229,7 @@ fn words_give_their_settings(rt: HostRuntime) -> Result<(), Fail> {
 
 #[test]
 fn words_give_no_settings(rt: HostRuntime) -> Result<(), Fail> {
-    let rows: [(&str, &[&str]); 36] = [
+    let rows: [(&str, &[&str]); 65] = [
         ("no word", &[]),
         ("a command alone", &["typology"]),
         ("a ranking alone", &["rank"]),
@@ -163,8 +256,43 @@ fn words_give_no_settings(rt: HostRuntime) -> Result<(), Fail> {
         ("an option without a name", &["typology", "A", "--=x"]),
         (
             "an option of no command",
+            &["torder", "A", "--schedule", "1"],
+        ),
+        (
+            "faithfulness of a typology",
             &["typology", "A", "--faith", "1"],
         ),
+        (
+            "faithfulness of implications",
+            &["torder", "A", "--faith", "1"],
+        ),
+        ("faithfulness of bases", &["bases", "A", "--faith", "1"]),
+        ("faithfulness of covers", &["hasse", "A", "--faith=1"]),
+        ("workers of bases", &["bases", "A", "--workers", "1"]),
+        ("workers of covers", &["hasse", "--workers=1", "A"]),
+        ("places of a ranking", &["rank", "A", "--store", "1"]),
+        ("two files of covers", &["hasse", "A", "B"]),
+        ("bases alone", &["bases"]),
+        ("implications alone", &["torder"]),
+        ("a command in capitals", &["Hasse", "A"]),
+        ("a demonstration", &["demo", "1"]),
+        ("constraint 0", &["rank", "A", "--faith", "0"]),
+        ("three zeros", &["rank", "A", "--faith", "000"]),
+        ("four digits", &["rank", "A", "--faith", "0001"]),
+        ("constraint 129", &["rank", "A", "--faith", "129"]),
+        ("a later 0", &["rank", "A", "--faith", "1,0"]),
+        ("a later 129", &["rank", "A", "--faith=1,129,2"]),
+        ("a comma first", &["rank", "A", "--faith", ",1"]),
+        ("a comma last", &["rank", "A", "--faith", "1,"]),
+        ("two commas", &["rank", "A", "--faith", "1,,2"]),
+        ("a comma alone", &["rank", "A", "--faith", ","]),
+        ("an empty list", &["rank", "A", "--faith="]),
+        ("a blank in a list", &["rank", "A", "--faith", "1, 2"]),
+        ("a letter in a list", &["rank", "A", "--faith", "1,b"]),
+        ("a plus in a list", &["rank", "A", "--faith", "1,+2"]),
+        ("another separator", &["rank", "A", "--faith", "1;2"]),
+        ("two lists", &["rank", "A", "--faith", "1", "--faith", "2"]),
+        ("no list", &["rank", "A", "--faith"]),
         (
             "an option of another command",
             &["rank", "A", "--workers", "1"],
@@ -237,7 +365,7 @@ impl Files for Closed {
 #[test]
 fn bad_words_open_no_file(rt: HostRuntime) -> Result<(), Fail> {
     let alloc = rt.alloc();
-    let rows: [&[&str]; 7] = [
+    let rows: [&[&str]; 9] = [
         &["typology"],
         &["typology", "A", "B"],
         &["frob", "A"],
@@ -245,6 +373,8 @@ fn bad_words_open_no_file(rt: HostRuntime) -> Result<(), Fail> {
         &["typology", "A", "--workers", "65"],
         &["typology", "A", "--faith", "1"],
         &["typology", "A", "--store", "1", "--store", "2"],
+        &["rank", "A", "--faith", "0"],
+        &["hasse", "A", "--store", "1"],
     ];
     for words in &rows {
         let mut files = Closed { opens: 0 };

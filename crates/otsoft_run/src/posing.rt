@@ -8,11 +8,11 @@ ghost use Rattle.ot_base.specs.Acceptable.{IsAcceptable};
 ghost use Rattle.ot_base.specs.Tableaus.{problem_of};
 ghost use Rattle.otsoft_run.specs.Answers.{judged, refusal_of};
 ghost use Rattle.otsoft_run.specs.Poses.{IsReadThrough};
-ghost use Rattle.otsoft_run.specs.Words.{file_of};
+ghost use Rattle.command_words.specs.Words.{file_of};
 
 use crate::judging::{Posed, judge};
 use crate::reading::{ReadEnd, read_whole};
-use crate::words::Settings;
+use command_words::Settings;
 use ot_base::Files;
 use std::alloc::Global;
 use tableau_file::{FileRefusal, ReadError};

@@ -1,23 +1,21 @@
 //! The report of a command.
 
-ghost use Rattle.std.specs.Prelude.{◌≡◌, ◌≤◌, IfOk, IsTrue};
+ghost use Rattle.std.specs.Prelude.{◌≡◌, IfOk, IsTrue};
 ghost use Rattle.ot_base.specs.Acceptable.{IsAcceptable};
 ghost use Rattle.ot_base.specs.Tableaus.{problem_of};
-ghost use Rattle.ot_theory.specs.Refutations.{is_contradicted};
-ghost use Rattle.ot_base.specs.declared.limits.TheConstants.{PLACE_LIMIT};
-ghost use Rattle.otsoft_run.specs.Words.{IsWithinLimits};
-ghost use Rattle.otsoft_run.specs.Answers.{IsReport, IsTypologyReport, IsRankReport, is_written, status_by, written_status};
+ghost use Rattle.command_words.specs.Words.{IsWithinLimits};
+ghost use Rattle.otsoft_run.specs.Answers.{IsReport, is_written, written_status};
 
+use crate::bases::bases_report;
+use crate::hasse::hasse_report;
 use crate::judging::Posed;
+use crate::ranking::{biased_report, rank_report};
+use crate::searches::{torder_report, typology_report};
 use crate::status::Status;
-use crate::words::Settings;
-use demotion::least_hierarchy;
+use command_words::Settings;
 use erc_vectors::NoMemory;
 use ot_base::Label;
-use refutation::{conditions_of, core_of, winner_terms};
-use report_text::{contradiction_text, rank_text, typology_text};
 use std::alloc::Global;
-use typology_core::search_alone;
 
 /// A report, and the status of a run that wrote it whole.
 #[derive(Debug, Drop)]
@@ -44,42 +42,15 @@ pub(crate) fn report_of(
             text: typology_report(alloc, posed, *places)?,
             status: Status::Done,
         }),
-        Settings::Rank { .. } => rank_report(alloc, posed),
-    }
-}
-
-/// The report of the languages, cuts and certificates of a tableau, found with so many places for contradictions.
-fn typology_report(alloc: Global, posed: &Posed, places: usize) -> Result<Label, NoMemory>
-    requires few { places ≤ PLACE_LIMIT }
-    requires poses { posed.now.problem ≡ problem_of posed.now.tableau }
-    ensures { IfOk result (λ report. IsTypologyReport posed.now report) }
-{
-    let alone = search_alone(alloc, &posed.problem, places)?;
-    typology_text(alloc, &posed.tableau, &posed.problem, &alone.typology)
-}
-
-/// The report of the least hierarchy of the winners, or of why there is none.
-fn rank_report(alloc: Global, posed: &Posed) -> Result<Report, NoMemory>
-    requires poses { posed.now.problem ≡ problem_of posed.now.tableau }
-    requires acceptable { IsAcceptable posed.now.tableau }
-    ensures report { IfOk result (λ report. IsRankReport posed.now report.text) }
-    ensures status { IfOk result (λ report. report.status ≡ status_by (is_contradicted posed.now.problem)) }
-    ensures written { IfOk result (λ report. IsTrue (is_written report.status)) }
-{
-    let (tableau, problem) = (&posed.tableau, &posed.problem);
-    let terms = winner_terms(alloc, problem)?;
-    let set = conditions_of(alloc, problem, terms.as_slice())?;
-    match least_hierarchy(problem.constraints(), set.as_slice()) {
-        Some(strata) => Ok(Report {
-            text: rank_text(alloc, tableau, problem, &strata, None)?,
+        Settings::Torder { places, .. } => Ok(Report {
+            text: torder_report(alloc, posed, *places)?,
             status: Status::Done,
         }),
-        None => {
-            let core = core_of(alloc, problem, terms.as_slice())?;
-            Ok(Report {
-                text: contradiction_text(alloc, tableau, problem, "rank", &core)?,
-                status: Status::Contradictory,
-            })
-        }
+        Settings::Rank { faith, .. } => match faith {
+            None => rank_report(alloc, posed),
+            Some(faith) => biased_report(alloc, posed, faith.as_slice()),
+        },
+        Settings::Bases { .. } => bases_report(alloc, posed),
+        Settings::Hasse { .. } => hasse_report(alloc, posed),
     }
 }

@@ -1,7 +1,7 @@
 use Rattle.std.proofs.Common.{refl, sym, subst, ◌∙◌}
-use Rattle.otsoft_run.specs.declared.words.Settings.{Settings}
+use Rattle.command_words.specs.declared.settings.Settings.{Settings}
 use Rattle.otsoft_run.specs.Answers.{SaysRefused, refusal_of}
-use Rattle.otsoft_run.specs.Words.{file_of}
+use Rattle.command_words.specs.Words.{file_of}
 use Rattle.otsoft_run.proofs.Asked.{same_settings}
 use Rattle.otsoft_run.proofs.top_call.run.Goals as goal
 

@@ -1,0 +1,4 @@
+pub mod Commands
+pub mod Cuts
+pub mod Named
+pub mod Numerals

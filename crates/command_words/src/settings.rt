@@ -1,0 +1,105 @@
+ghost use Rattle.std.specs.Prelude.{◌≡◌, IfOk};
+ghost use Rattle.command_words.specs.Words.{file_of};
+
+use erc_vectors::{ConId, List, NoMemory};
+use std::alloc::Global;
+use std::marker::Model;
+
+/// The name of a file, as its bytes.
+#[derive(Debug, Drop)]
+pub struct FileName {
+    text: String,
+}
+
+impl Model for FileName {
+    ghost use Rattle.std.specs.Prelude.{List, ℕ, string_bytes};
+
+    ghost Value = { List ℕ };
+
+    ghost view = { λ name. string_bytes name.text };
+}
+
+impl FileName {
+    /// The name that these bytes spell.
+    pub fn of(alloc: Global, text: &str) -> Result<FileName, NoMemory>
+        ensures { IfOk result (λ name. name ≡ text.now) }
+    {
+        match String::from_str(alloc, text) {
+            Ok(text) => Ok(FileName { text }),
+            Err(_) => Err(NoMemory),
+        }
+    }
+
+    /// The bytes of the name.
+    pub fn as_str(&self) -> &str
+        ensures { result.now ≡ self.now }
+    {
+        self.text.as_str()
+    }
+}
+
+/// What the words ask for.
+#[derive(Debug, Drop)]
+pub enum Settings {
+    /// The factorial typology of a file, found by 1 to 64 workers who keep at most `places` contradictions, from 0 to 4,096.
+    Typology {
+        file: FileName,
+        workers: usize,
+        places: usize,
+    },
+    /// The implications between the outputs of a file, found by such a search.
+    Torder {
+        file: FileName,
+        workers: usize,
+        places: usize,
+    },
+    /// A hierarchy that makes the winners of a file optimal: the least one, or where faithfulness constraints are named, counted
+    /// from 0, the one that keeps these low. A number may stand there twice, and may be that of no constraint of the file.
+    Rank {
+        file: FileName,
+        faith: Option<List<ConId>>,
+    },
+    /// The two bases of what the winners of a file ask for.
+    Bases {
+        file: FileName,
+    },
+    /// The covers of the necessary rankings that the winners of a file ask for.
+    Hasse {
+        file: FileName,
+    },
+}
+
+impl Settings {
+    /// The file that is read.
+    pub fn file(&self) -> &str
+        ensures { result.now ≡ file_of self.now }
+    {
+        match self {
+            Settings::Typology { file, .. } => file.as_str(),
+            Settings::Torder { file, .. } => file.as_str(),
+            Settings::Rank { file, .. } => file.as_str(),
+            Settings::Bases { file } => file.as_str(),
+            Settings::Hasse { file } => file.as_str(),
+        }
+    }
+}
+
+/// Why no settings were made of the words.
+#[derive(Clone, Copy, Debug, PartialEq, Eq)]
+pub enum WordsError {
+    /// The words give no settings.
+    Bad,
+    /// There was no memory for what the words hold.
+    NoMemory,
+}
+
+impl From<NoMemory> for WordsError {
+    ghost use Rattle.std.specs.Prelude.{◌≡◌};
+    ghost use Rattle.command_words.specs.declared.settings.WordsError.TheVariants as variants;
+
+    ghost from_gives = { λ _ error. error ≡ variants.NoMemory };
+
+    fn from(_error: NoMemory) -> WordsError {
+        WordsError::NoMemory
+    }
+}

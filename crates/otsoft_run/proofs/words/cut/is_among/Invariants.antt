@@ -1,7 +1,0 @@
--- the name is none of those so far
-use Rattle.std.proofs.Common.{◌≡◌, map, drop}
-use Rattle.otsoft_run.specs.Words.{is_among}
-use Rattle.otsoft_run.proofs.words.cut.is_among.Given as goal
-
-abbrev pub invariant-loop-known : goal.invariant-loop-known
-invariant-loop-known l = is_among (map (λ known. known.now) l.names) l.name ≡ is_among (map (λ known. known.now) (drop l.known-index l.names)) l.name

@@ -1,0 +1,37 @@
+//! The report of a command where no ranking keeps the conditions of the winners.
+
+ghost use Rattle.std.specs.Prelude.{◌≡◌, true, IfOk, IsTrue};
+ghost use Rattle.ot_base.specs.Tableaus.{problem_of};
+ghost use Rattle.ot_theory.specs.Refutations.{is_contradicted, one_winner_each, terms_of_winners};
+ghost use Rattle.refutation.specs.Terms.{are_terms, terms_in};
+ghost use Rattle.otsoft_run.specs.Answers.{IsContradictionReport};
+
+use crate::judging::Posed;
+use crate::report::Report;
+use crate::status::Status;
+use erc_vectors::NoMemory;
+use refutation::{Term, core_of};
+use report_text::contradiction_text;
+use std::alloc::Global;
+
+/// The report of the certificate of the winners' terms.
+pub(crate) fn contradiction_report(
+    alloc: Global,
+    posed: &Posed,
+    command: &str,
+    terms: &[Term],
+) -> Result<Report, NoMemory>
+    requires poses { posed.now.problem ≡ problem_of posed.now.tableau }
+    requires winners { terms_in terms.now ≡ terms_of_winners posed.now.problem }
+    requires genuine { IsTrue (are_terms posed.now.problem terms.now) }
+    requires one { IsTrue (one_winner_each (terms_in terms.now)) }
+    requires contradicted { is_contradicted posed.now.problem ≡ true }
+    ensures report { IfOk result (λ report. IsContradictionReport command.now posed.now report.text) }
+    ensures status { IfOk result (λ report. report.status ≡ Status.Contradictory) }
+{
+    let core = core_of(alloc, &posed.problem, terms)?;
+    Ok(Report {
+        text: contradiction_text(alloc, &posed.tableau, &posed.problem, command, &core)?,
+        status: Status::Contradictory,
+    })
+}

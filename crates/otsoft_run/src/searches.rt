@@ -1,0 +1,39 @@
+//! The reports that are made from the languages of a file.
+
+ghost use Rattle.std.specs.Prelude.{◌≡◌, ◌≤◌, IfOk};
+ghost use Rattle.ot_base.specs.Tableaus.{problem_of};
+ghost use Rattle.ot_base.specs.declared.limits.TheConstants.{PLACE_LIMIT};
+ghost use Rattle.otsoft_run.specs.Answers.{IsTypologyReport, IsTorderReport};
+
+use crate::judging::Posed;
+use erc_vectors::NoMemory;
+use ot_base::Label;
+use report_text::{torder_text, typology_text};
+use std::alloc::Global;
+use t_orders::implications;
+use typology_core::search_alone;
+
+/// The report of the languages, cuts and certificates of a tableau, found with so many places for contradictions.
+pub(crate) fn typology_report(
+    alloc: Global,
+    posed: &Posed,
+    places: usize,
+) -> Result<Label, NoMemory>
+    requires few { places ≤ PLACE_LIMIT }
+    requires poses { posed.now.problem ≡ problem_of posed.now.tableau }
+    ensures { IfOk result (λ report. IsTypologyReport posed.now report) }
+{
+    let alone = search_alone(alloc, &posed.problem, places)?;
+    typology_text(alloc, &posed.tableau, &posed.problem, &alone.typology)
+}
+
+/// The report of the implications between outputs, which are read off the languages.
+pub(crate) fn torder_report(alloc: Global, posed: &Posed, places: usize) -> Result<Label, NoMemory>
+    requires few { places ≤ PLACE_LIMIT }
+    requires poses { posed.now.problem ≡ problem_of posed.now.tableau }
+    ensures { IfOk result (λ report. IsTorderReport posed.now report) }
+{
+    let alone = search_alone(alloc, &posed.problem, places)?;
+    let list = implications(alloc, &posed.problem, alone.typology.languages.as_slice())?;
+    torder_text(alloc, &posed.tableau, &posed.problem, list.as_slice())
+}
