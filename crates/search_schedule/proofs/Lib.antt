@@ -1,0 +1,4 @@
+pub mod Places
+pub mod Counting
+pub mod Weights
+pub mod Runs
