@@ -2,3 +2,5 @@ pub mod Places
 pub mod Counting
 pub mod Weights
 pub mod Runs
+pub mod OneRun
+pub mod Examples

@@ -42,3 +42,7 @@ pub record IsRunOf (problem : Problem) (workers places number : ℕ) (state : St
   pub drawn : AreDrawn problem places number (start workers) steps last state
   pub ended : enabled_steps state ≡ []
   pub counted : learns ≡ learns_among steps
+
+-- So many of the steps of the schedule of a number are Learn steps.
+abbrev pub CountsLearns : Problem → ℕ → ℕ → ℕ → ℕ → Type 0
+CountsLearns problem workers places number learns = (state : State) × IsRunOf problem workers places number state learns

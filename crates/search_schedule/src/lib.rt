@@ -8,6 +8,8 @@
 #![tactic(auto)]
 
 mod choosing;
+mod laws;
 mod schedule;
 
+pub use laws::{schedule_has_one_run, schedule_is_a_run};
 pub use schedule::finished_machine;
