@@ -201,6 +201,29 @@ impl<'p> Machine<'p> {
         })
     }
 
+    /// The number of workers: each has a hand, a queue and an outbox.
+    pub fn workers(&self) -> usize
+        ensures hands { result ≡ length self.now.state.hands }
+        ensures queues { result ≡ length self.now.state.queues }
+        ensures outboxes { result ≡ length self.now.state.outboxes }
+    {
+        self.hands.len()
+    }
+
+    /// Whether the hand of a worker is empty. No worker out of range has one.
+    pub fn is_idle(&self, w: usize) -> bool
+        ensures { result ≡ is_idle self.now.state.hands w }
+    {
+        is_idle(&self.hands, w)
+    }
+
+    /// Whether the queue of a worker holds a prefix. No worker out of range has one.
+    pub fn is_filled(&self, w: usize) -> bool
+        ensures { result ≡ is_filled self.now.state.queues w }
+    {
+        is_filled(&self.queues, w)
+    }
+
     /// Whether a step is enabled. No step of a worker out of range is.
     pub fn enabled(&self, s: Step) -> bool
         ensures { result ≡ is_enabled self.now.state s }

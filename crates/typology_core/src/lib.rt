@@ -1,5 +1,5 @@
-//! The core of the search for a typology: the search of one worker; and, made public here, the deeds of any search, what they
-//! give, and the machine of the search.
+//! The core of the search for a typology: the search of one worker, and that of several under the schedule of a number; and, made
+//! public here, the deeds of any search, what they give, and the machine of the search.
 //!
 //! The search of one worker walks through the prefixes of choices depth first and in class order, so that languages, cuts and
 //! certificates come in their order and no prefix waits; and it counts how often demotion judges a prefix in a search that
@@ -11,15 +11,18 @@
 
 mod learning;
 mod ready;
+mod schedule;
 mod search;
 #[cfg(test)]
 mod tests;
 mod walk;
 
 pub use ot_base::PLACE_LIMIT;
+pub use schedule::run_schedule;
 pub use search::{Alone, search_alone};
 pub use search_deeds::{Deed, Deeds, Fate, deeds_go, gather};
 pub use search_machine::{
     Machine, Step, StepRefused, WORKER_LIMIT, each_choice_stands_once, facts_are_kept,
     finished_deeds_tell_all, finished_where_empty,
 };
+pub use search_schedule::{schedule_has_one_run, schedule_is_a_run};

@@ -15,8 +15,7 @@ use refutation::Typology;
 use std::alloc::Global;
 use violation_profiles::Problem;
 
-/// What a search of one worker comes to: the typology, and how often demotion judges a prefix, which stays at 2^64 - 1 once it is
-/// there.
+/// What a search comes to: the typology, and how often demotion judges a prefix, which stays at 2^64 - 1 once it is there.
 #[derive(Debug, Drop)]
 pub struct Alone {
     pub typology: Typology,

@@ -1,7 +1,7 @@
 ghost use Rattle.std.specs.Prelude.{◌≡◌, ◌≤◌, length, IfOk};
 ghost use Rattle.ot_base.specs.Acceptable.{IsRow, AreRows};
 
-use crate::{PLACE_LIMIT, search_alone};
+use crate::{PLACE_LIMIT, run_schedule, search_alone};
 use erc_vectors::{ConId, List, NoMemory};
 use ot_base::{CandidateRow, InputRows, Label, Tableau};
 use refutation::{Contradiction, Prefix, Typology};
@@ -185,5 +185,47 @@ fn typologies_with_any_number_of_places(rt: HostRuntime) -> Result<(), Fail> {
         &problem(alloc, 4, &OTHER_CERTIFICATE)?,
         "1 2 2121\n2 2 1211\n3 2 2112\n1 1 #1\n1 3 #2\n2 1 #1\n2 3 #3\n3 1 #1\n3 3 #3\n2:1>2 \n1:1>2 2:3>1 \n2:3>2 \n",
         &[(0, 13), (1, 11), (16, 10)],
+    )
+}
+
+/// Whether the schedules of the numbers from 0 on, with three workers and 1,024 places, come to this typology, and judge by
+/// demotion so often.
+fn schedules(
+    rt: &impl Abort,
+    alloc: Global,
+    name: &str,
+    problem: &Problem,
+    typology: &str,
+    learns: &[u64],
+) -> Result<(), Fail> {
+    let mut number = 0u64;
+    for times in learns {
+        let alone = run_schedule(alloc, problem, 3, 1024, number)?;
+        let text = shown(alloc, &alone.typology)?;
+        assert_eq!(rt; text.as_str(), typology, "{name}, {number}");
+        assert_eq!(rt; alone.learns, *times, "{name}, {number}");
+        number = number.saturating_add(1);
+    }
+    Ok(())
+}
+
+#[test]
+fn schedules_find_the_typology(rt: HostRuntime) -> Result<(), Fail> {
+    let alloc = rt.alloc();
+    schedules(
+        &rt,
+        alloc,
+        "two codas",
+        &problem(alloc, 3, &TWO_CODAS)?,
+        "1 1 211\n2 2 121\n3 3 112\n1 2 #1\n1 3 #2\n2 1 #3\n2 3 #4\n3 1 #5\n3 2 #6\n1:1>2 2:2>1 \n1:1>3 2:3>1 \n1:2>1 2:1>2 \n1:2>3 2:3>2 \n1:3>1 2:1>3 \n1:3>2 2:2>3 \n",
+        &[13, 13, 13, 13],
+    )?;
+    schedules(
+        &rt,
+        alloc,
+        "bounded",
+        &problem(alloc, 3, &BOUNDED)?,
+        "1 1 211\n2 1 121\n3 1 112\n1 2 #1\n2 2 #1\n3 2 #1\n2:2>1 \n",
+        &[8, 9, 9, 10],
     )
 }

@@ -1,0 +1,11 @@
+-- those so far
+use Rattle.std.proofs.Common.{◌≡◌, ◌≤◌, ◌*◌, length, flat_map}
+use Rattle.ot_theory.specs.Rankings.{numbers_below}
+use Rattle.search_schedule.specs.Schedules.{enabled_of}
+use Rattle.search_schedule.proofs.choosing.enabled_steps.Given as goal
+
+abbrev pub invariant-loop-w : goal.invariant-loop-w
+invariant-loop-w l = record {
+  counted : l.enabled ≡ length (flat_map (enabled_of l.machine.state) (numbers_below l.w));
+  few : l.enabled ≤ l.w * 68;
+}
