@@ -1,7 +1,6 @@
 -- How many steps of a worker are enabled, and what stands at a place among its steps.
-use Rattle.std.proofs.Common.{◌≡◌, ℕ, zero, suc, ◌+◌, ◌<◌, ◌≤◌, List, [], ◌∷◌, ◌++◌, Bool, true, false, not, ◌&&◌, ◌==◌, arith, refl, sym, ◌∙◌, ap, inl, inr, length, length-append, map, take, subst, get_or, Option, Some, None}
-use Rattle.std.specs.Prelude.{slice_get, count_by, is_some, nat_lt}
-use Rattle.std.specs.List.{range_with_len}
+use Rattle.std.proofs.Common.{◌≡◌, ℕ, zero, suc, ◌+◌, ◌<◌, ◌≤◌, List, [], ◌∷◌, ◌++◌, Bool, true, false, not, ◌&&◌, ◌==◌, arith, refl, sym, ◌∙◌, ap, inl, inr, length, length-append, map, take, subst, Option, Some, None}
+use Rattle.std.specs.Prelude.{slice_get, count_by, nat_lt}
 use Rattle.std.specs.Option.{option_map_or}
 use Rattle.std.proofs.lemmas.Bool.Decides.{eqb_tells}
 use Rattle.std.proofs.lemmas.List.{take_all}
@@ -67,8 +66,13 @@ alike test w v e = elim (eqb_tells v w) [ inl same ↦ ap (λ b. not b && test v
 all-before : (test : ℕ → Bool) (w n : ℕ) → n ≤ w → count_by (other_than w test) (numbers_below n) ≡ count_by test (numbers_below n)
 all-before test w zero h = refl
 all-before test w (suc n) h =
-    omega (arith, count-next test n (suc n) (omega arith), count-next (other_than w test) n (suc n) (omega arith), all-before test w n (omega arith),
-    ap bit (unlike test w n (λ e. omega (arith, e, h))))
+    omega (
+      arith,
+      count-next test n (suc n) (omega arith),
+      count-next (other_than w test) n (suc n) (omega arith),
+      all-before test w n (omega arith),
+      ap bit (unlike test w n (λ e. omega (arith, e, h))),
+    )
 
 all-but-one : (test : ℕ → Bool) (w n : ℕ) → w < n → count_by (other_than w test) (numbers_below n) + bit (test w) ≡ count_by test (numbers_below n)
 all-but-one test w zero h = absurd (omega arith)
@@ -84,8 +88,17 @@ pub parts : (state : State) (w : ℕ) → length (enabled_of state w) ≡ one_wh
 parts state w =
     let n = length state.hands in
     let f : Step → ℕ = one_where state in
-    omega (arith, length-filter (is_enabled state) (steps_of n w), sum_by-cons f (Take w) (steals n w ++ others w), sum_by-append f (steals n w) (others w), count-map (is_enabled state) (λ v. Steal w v) (numbers_below n),
-    sum_by-cons f (Consult w) (Learn w ∷ Settle w ∷ Put w ∷ []), sum_by-cons f (Learn w) (Settle w ∷ Put w ∷ []), sum_by-cons f (Settle w) (Put w ∷ []), sum_by-cons f (Put w) [])
+    omega (
+      arith,
+      length-filter (is_enabled state) (steps_of n w),
+      sum_by-cons f (Take w) (steals n w ++ others w),
+      sum_by-append f (steals n w) (others w),
+      count-map (is_enabled state) (λ v. Steal w v) (numbers_below n),
+      sum_by-cons f (Consult w) (Learn w ∷ Settle w ∷ Put w ∷ []),
+      sum_by-cons f (Learn w) (Settle w ∷ Put w ∷ []),
+      sum_by-cons f (Settle w) (Put w ∷ []),
+      sum_by-cons f (Put w) [],
+    )
 
 held-none : (test : Hand → Bool) (hands : List (Option Hand)) (w : ℕ) → is_idle hands w ≡ true → is_holding test hands w ≡ false
 held-none test hands w h = ap (λ (slot : Option (Option Hand)). option_map_or (λ hand. option_map_or test hand false) slot false) (idle-here hands w h)

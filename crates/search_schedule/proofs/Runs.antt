@@ -1,12 +1,12 @@
 -- Drawn steps, one more, and the end.
-use Rattle.std.proofs.Common.{◌≡◌, ℕ, zero, suc, ◌+◌, ◌-◌, ◌^◌, ◌<◌, ◌≤◌, min, List, [], ◌∷◌, ◌++◌, Bool, true, false, not, ◌&&◌, ◌==◌, cond, arith, refl, sym, ◌∙◌, ap, subst, inl, inr, length, Option, Some, None}
+use Rattle.std.proofs.Common.{◌≡◌, ℕ, suc, ◌-◌, ◌^◌, ◌<◌, ◌≤◌, min, List, [], ◌∷◌, ◌++◌, Bool, true, false, not, ◌&&◌, ◌==◌, cond, arith, refl, sym, ◌∙◌, ap, subst, inl, inr, length, Option, Some, None}
 use Rattle.std.specs.Prelude.{slice_get, count_by, is_none}
-use Rattle.std.specs.List.{filter, list_all}
+use Rattle.std.specs.List.{list_all}
 use Rattle.std.specs.Option.{option_map_or}
 use Rattle.std.proofs.lemmas.Bool.{and_from}
 use Rattle.std.proofs.lemmas.List.{length-replicate}
 use Rattle.std.proofs.lemmas.Bool.Decides.{eqb_tells}
-use Rattle.std.proofs.lemmas.List.Sums.{length-filter, sum_by-cons, sum_by_push}
+use Rattle.std.proofs.lemmas.List.Sums.{sum_by_push}
 use Rattle.std.proofs.lemmas.Option.{slice_get_within, slice_get-get_or}
 use Rattle.ot_base.specs.Causes.{next_number}
 use Rattle.number_draws.specs.Draws.{next_state}
@@ -14,8 +14,8 @@ use Rattle.ot_theory.specs.Problems.{Problem}
 use Rattle.search_machine.specs.Machine.{Hand, Leads, State, is_empty, is_filled, is_holding, is_idle, is_learn, is_unknown, start}
 use Rattle.search_machine.specs.Seen.{Progress}
 use Rattle.search_machine.specs.declared.step.Step.{Step}
-use Rattle.search_schedule.specs.Schedules.{AreDrawn, IsDrawn, IsRunOf, enabled_of, enabled_steps, learns_among, steps_of}
-use Rattle.search_schedule.proofs.Counting.{one_where, parts}
+use Rattle.search_schedule.specs.Schedules.{AreDrawn, IsDrawn, IsRunOf, enabled_of, enabled_steps, learns_among}
+use Rattle.search_schedule.proofs.Counting.{parts}
 use Rattle.search_schedule.proofs.Places.{bit, flat-none}
 use Rattle.search_schedule.proofs.Weights.{IsSized, lowers, sized, weight}
 
@@ -105,9 +105,9 @@ no-hand state w None e h = refl
 no-hand state w (Some hand) e h =
     let none = none-at state w e (slice_get_within state.hands w (Some hand) h) in
     let a : is_unknown hand.mark ≡ false = ap (λ (slot : Option (Option Hand)). option_map_or (λ (x : Option Hand). option_map_or (λ (y : Hand). is_unknown y.mark) x false) slot false) (sym h)
-        ∙ off (is_holding (λ y. is_unknown y.mark) state.hands w) (omega (arith, none, parts state w)) in
+    ∙ off (is_holding (λ y. is_unknown y.mark) state.hands w) (omega (arith, none, parts state w)) in
     let b : not (is_unknown hand.mark) ≡ false = ap (λ (slot : Option (Option Hand)). option_map_or (λ (x : Option Hand). option_map_or (λ (y : Hand). not (is_unknown y.mark)) x false) slot false) (sym h)
-        ∙ off (is_holding (λ y. not (is_unknown y.mark)) state.hands w) (omega (arith, none, parts state w)) in
+    ∙ off (is_holding (λ y. not (is_unknown y.mark)) state.hands w) (omega (arith, none, parts state w)) in
     absurd (let d : true ≡ false = sym (ap not a) ∙ b in cc)
 
 pub ended-empty : (state : State) → length state.queues ≡ length state.hands → length state.outboxes ≡ length state.hands → enabled_steps state ≡ [] → is_empty state ≡ true

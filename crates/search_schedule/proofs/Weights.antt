@@ -70,8 +70,13 @@ picked-lower : (problem : Problem) (places : ℕ) (state : State) (w v : ℕ) (f
 picked-lower problem places state w v front rest q h =
     let f = in_queue problem places in
     let g = held problem places in
-    omega (arith, weight-set (sum_by f) (sum_by-append f) (λ queue. queue) state.queues v (front ∷ rest) rest q, weight-set (sum_by g) (sum_by-append g) hand_in state.hands w None (Some (in_hand front)) h,
-    sum_by-cons f front rest, sum_by-cons g (in_hand front) [])
+    omega (
+      arith,
+      weight-set (sum_by f) (sum_by-append f) (λ queue. queue) state.queues v (front ∷ rest) rest q,
+      weight-set (sum_by g) (sum_by-append g) hand_in state.hands w None (Some (in_hand front)) h,
+      sum_by-cons f front rest,
+      sum_by-cons g (in_hand front) [],
+    )
 
 -- Consult and Learn.
 hand-lower : (problem : Problem) (places : ℕ) (state : State) (w : ℕ) (hand after : Hand) (store : List (List Term)) → slice_get state.hands w ≡ Some (Some hand) → held problem places after < held problem places hand
@@ -107,8 +112,13 @@ children-weigh problem places n prefix [] e = refl
 children-weigh problem places n prefix (a ∷ classes) e =
     let child : List ℕ = prefix ++ a ∷ [] in
     let left : n ≡ length problem.inputs - length child = omega (arith, length-append prefix (a ∷ [])) in
-    omega (arith, sum_by-cons (λ (c : List ℕ). below problem places n c + (places + 4)) child (map (λ a. prefix ++ a ∷ []) classes), sum_by-cons (in_outbox problem places) child (map (λ a. prefix ++ a ∷ []) classes),
-    ap (λ k. below problem places k child) left, children-weigh problem places n prefix classes e)
+    omega (
+      arith,
+      sum_by-cons (λ (c : List ℕ). below problem places n c + (places + 4)) child (map (λ a. prefix ++ a ∷ []) classes),
+      sum_by-cons (in_outbox problem places) child (map (λ a. prefix ++ a ∷ []) classes),
+      ap (λ k. below problem places k child) left,
+      children-weigh problem places n prefix classes e,
+    )
 
 below-next : (problem : Problem) (places n m : ℕ) (prefix : List ℕ) → m ≡ suc n → below problem places m prefix ≡ sum_by (λ child. below problem places n child + (places + 4)) (children problem prefix)
 unfolding below
@@ -131,8 +141,14 @@ settled-lower : (problem : Problem) (places : ℕ) (state : State) (w : ℕ) (ha
     → weight problem places (record state { hands = set state.hands w None; outboxes = set state.outboxes w (get_or state.outboxes w [] ++ flat_map (children problem) (opened_by hand.prefix fate)); deeds = deeds }) < weight problem places state
 settled-lower problem places state w hand fate deeds h known f =
     let g = held problem places in
-    omega (arith, weight-set (sum_by g) (sum_by-append g) hand_in state.hands w (Some hand) None h, sum_by-cons g hand [], known-one places hand.mark hand.cursor known,
-    grown (in_outbox problem places) state.outboxes w (flat_map (children problem) (opened_by hand.prefix fate)), fate-weighs problem places hand.prefix hand.mark fate f)
+    omega (
+      arith,
+      weight-set (sum_by g) (sum_by-append g) hand_in state.hands w (Some hand) None h,
+      sum_by-cons g hand [],
+      known-one places hand.mark hand.cursor known,
+      grown (in_outbox problem places) state.outboxes w (flat_map (children problem) (opened_by hand.prefix fate)),
+      fate-weighs problem places hand.prefix hand.mark fate f,
+    )
 
 -- Put.
 posted-lower : (problem : Problem) (places : ℕ) (state : State) (w : ℕ) (front : List ℕ) (rest : List (List ℕ)) → slice_get state.outboxes w ≡ Some (front ∷ rest)

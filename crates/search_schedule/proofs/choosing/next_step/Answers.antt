@@ -1,5 +1,5 @@
 -- A draw below the number of the enabled steps is a place among them.
-use Rattle.std.proofs.Common.{◌≡◌, ◌∙◌, sym, arith}
+use Rattle.std.proofs.Common.{arith}
 use Rattle.search_schedule.specs.Schedules.{enabled_steps}
 use Rattle.search_schedule.proofs.Places.{some-there}
 use Rattle.search_schedule.proofs.choosing.next_step.Goals as goal

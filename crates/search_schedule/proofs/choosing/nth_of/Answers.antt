@@ -1,5 +1,5 @@
 -- A step that is enabled is passed, or it is the one at the place.
-use Rattle.std.proofs.Common.{◌≡◌, ◌∙◌, ap, sym, arith}
+use Rattle.std.proofs.Common.{◌∙◌, ap, sym, arith}
 use Rattle.search_schedule.proofs.Counting.{step-found, step-passed, steps-passed}
 use Rattle.search_schedule.proofs.Places.{bit}
 use Rattle.search_schedule.proofs.choosing.nth_of.Goals as goal

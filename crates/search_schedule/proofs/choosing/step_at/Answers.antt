@@ -1,4 +1,4 @@
-use Rattle.std.proofs.Common.{◌≡◌, ◌∙◌, arith, refl}
+use Rattle.std.proofs.Common.{arith}
 use Rattle.search_schedule.proofs.Counting.{at-other, at-steal}
 use Rattle.search_schedule.proofs.choosing.step_at.Goals as goal
 

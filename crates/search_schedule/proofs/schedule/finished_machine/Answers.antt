@@ -1,6 +1,5 @@
 -- Each step is the one that is drawn, and lowers the weight. Where none is enabled any more, the schedule has ended.
-use Rattle.std.proofs.Common.{◌≡◌, ◌∙◌, arith, refl, sym, subst}
-use Rattle.search_schedule.proofs.Runs.{IsUnderWay, run-ended, under-way-first, under-way-lowers, under-way-next}
+use Rattle.search_schedule.proofs.Runs.{run-ended, under-way-first, under-way-lowers, under-way-next}
 use Rattle.search_schedule.proofs.schedule.finished_machine.Goals as goal
 
 pub loop-step-init : goal.loop-step-init
