@@ -1,6 +1,6 @@
 //! Rankings with faithfulness constraints that are kept low, as whole reports.
 
-use crate::cases::{Case, Given, check_cases};
+use crate::cases::{Case, Given, first_difference};
 use otsoft_run::Status;
 use std::test::Fail;
 
@@ -223,5 +223,6 @@ const CASES: [Case; 9] = [
 
 #[test]
 fn files_give_their_biased_rankings(rt: HostRuntime) -> Result<(), Fail> {
-    check_cases(rt, &CASES)
+    assert_eq!(rt; first_difference(rt.alloc(), &CASES)?, None);
+    Ok(())
 }

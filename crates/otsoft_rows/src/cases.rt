@@ -1,6 +1,7 @@
 use crate::outside::{Outside, difference};
+use erc_vectors::NoMemory;
 use otsoft_run::Status;
-use std::test::Fail;
+use std::alloc::Global;
 
 /// A file, and the head of its reports behind the title.
 #[derive(Clone, Copy)]
@@ -19,22 +20,21 @@ pub(crate) struct Case {
     pub(crate) status: Status,
 }
 
-/// Runs each case, and compares its status and all that it writes.
-pub(crate) fn check_cases(rt: HostRuntime, cases: &[Case]) -> Result<(), Fail> {
+/// Runs each case, and compares its status and all that it writes. Answers the name of the first that differs, and in what.
+pub(crate) fn first_difference(
+    alloc: Global,
+    cases: &[Case],
+) -> Result<Option<(&'static str, &'static str)>, NoMemory> {
     for case in cases {
-        let Case {
-            name,
-            words,
-            given,
-            tail,
-            status,
-        } = *case;
-        let (command, head) = (words[0], given.head);
-        let report = format!(in rt.alloc(); "otsoft report 1\t{command}\n{head}{tail}")?;
-        let outside = Outside::sound("a.txt", given.file.as_bytes());
-        let want = (status, report.as_bytes(), &b""[..]);
-        let found = difference(rt.alloc(), words, &outside, want)?;
-        assert_eq!(rt; found, None, "{name}");
+        let (command, head, tail) = (case.words[0], case.given.head, case.tail);
+        let Ok(report) = format!(in alloc; "otsoft report 1\t{command}\n{head}{tail}") else {
+            return Err(NoMemory);
+        };
+        let outside = Outside::sound("a.txt", case.given.file.as_bytes());
+        let want = (case.status, report.as_bytes(), &b""[..]);
+        if let Some(part) = difference(alloc, case.words, &outside, want)? {
+            return Ok(Some((case.name, part)));
+        }
     }
-    Ok(())
+    Ok(None)
 }
