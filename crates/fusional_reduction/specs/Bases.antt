@@ -1,5 +1,7 @@
 -- The informative and the skeletal basis of a set of conditions.
-use Rattle.std.specs.Prelude.{◌≡◌, ◌<◌, ◌==◌, ℕ, Bool, true, false, ◌&&◌, ◌||◌, List, [], ◌∷◌, length, nat_lt, slice_index_or, AllPairs}
+use Rattle.std.specs.Prelude.{◌≡◌, ◌<◌, ℕ, Bool, true, List, [], map, length, slice_index_or, AllPairs}
+use Rattle.std.specs.Ordering.{is_lt, nat_cmp}
+use Rattle.std.specs.Cmp.Lexicographic.{slice_cmp}
 use Rattle.ot_theory.specs.declared.Mark.{Mark}
 use Rattle.ot_theory.specs.declared.Mark.TheVariants.{W, L, E}
 use Rattle.ot_theory.specs.Conditions.{fusion}
@@ -11,11 +13,9 @@ place_of W = 0
 place_of E = 1
 place_of L = 2
 
--- Of two lists of marks the one comes first that has the earlier mark at the first constraint on which they differ.
+-- One list of marks comes before another where it has the earlier mark at the first constraint on which they differ.
 abbrev pub comes_before : List Mark → List Mark → Bool
-comes_before [] others = false
-comes_before (mark ∷ marks) [] = false
-comes_before (mark ∷ marks) (other ∷ others) = nat_lt (place_of mark) (place_of other) || ((place_of mark == place_of other) && comes_before marks others)
+comes_before marks others = is_lt (slice_cmp nat_cmp (map place_of marks) (map place_of others))
 
 -- The fusion of a node that is kept, and its skeletal form.
 pub record IsMember (n : ℕ) (set : List (List Mark)) (informative skeletal : List Mark) : Type 0 where

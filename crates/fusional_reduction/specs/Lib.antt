@@ -1,3 +1,5 @@
 pub mod Nodes
 pub mod Bases
 pub mod Laws
+pub mod Chosen
+pub mod Visits

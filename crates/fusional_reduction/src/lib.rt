@@ -5,9 +5,13 @@
 //! skeletal form, and the order of the members. No claim is made that they are the paper's.
 #![tactic(auto)]
 
+mod masks;
+mod member;
+mod order;
 mod reduced;
 mod reduction;
 mod shared;
+mod visit;
 
 pub use reduced::Bases;
 pub use reduction::bases;

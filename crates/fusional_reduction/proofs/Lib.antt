@@ -1,0 +1,12 @@
+pub mod Examples
+pub mod Fusions
+pub mod NodesWithin
+pub mod KeptNodes
+pub mod SameRankings
+pub mod Independent
+pub mod Visited
+pub mod ByMasks
+pub mod OrderOfMarks
+pub mod Added
+pub mod Walk
+pub mod Listed

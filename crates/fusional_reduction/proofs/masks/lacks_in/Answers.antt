@@ -1,0 +1,5 @@
+use Rattle.fusional_reduction.proofs.ByMasks.{lacks_in-mask}
+use Rattle.fusional_reduction.proofs.masks.lacks_in.Goals as goal
+
+pub returns : goal.returns
+returns c = lacks_in-mask c.args.condition.now c.w_mask.result c.args.mask c.w_mask.ensures.mask

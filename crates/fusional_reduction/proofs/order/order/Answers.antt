@@ -1,0 +1,6 @@
+use Rattle.std.proofs.Common.{arith, sym, ◌∙◌}
+use Rattle.fusional_reduction.proofs.OrderOfMarks.{order-end}
+use Rattle.fusional_reduction.proofs.order.order.Goals as goal
+
+pub returns : goal.returns
+returns c = let e = order-end c.args.a.now c.args.b.now c.loop-k.k (omega arith) in cc
