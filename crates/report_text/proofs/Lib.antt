@@ -5,3 +5,15 @@ pub mod Posed
 pub mod Spaced
 pub mod Members
 pub mod WithBoth
+pub mod Numerals
+pub mod Parted
+pub mod Lines
+pub mod NumberedLines
+pub mod Spelled
+pub mod Strata
+pub mod Heads
+pub mod TypologyLines
+pub mod ReadBack
+pub mod NoGaps
+pub mod TrueTypologies
+pub mod PrintableExamples

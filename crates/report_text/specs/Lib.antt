@@ -1,3 +1,4 @@
 pub mod Spelling
 pub mod Reports
 pub mod Listings
+pub mod Printable

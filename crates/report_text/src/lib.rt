@@ -16,6 +16,7 @@ mod contradiction;
 mod hasse;
 mod head;
 mod hierarchy;
+mod laws;
 mod rank;
 mod tableaux;
 mod terms;
@@ -29,6 +30,9 @@ mod winners;
 pub use bases::bases_text;
 pub use contradiction::contradiction_text;
 pub use hasse::hasse_text;
+pub use laws::{
+    answer_is_read_back, found_is_printable, report_is_read_back, report_limit_in_digits,
+};
 pub use rank::rank_text;
 pub use report_reader::{REPORT_LIMIT, TextError, read_typology_text};
 pub use torder::torder_text;

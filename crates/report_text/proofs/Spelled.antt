@@ -1,0 +1,159 @@
+-- Class numbers, marks and terms are read from what they are spelled as.
+use Rattle.std.proofs.Common.{◌≡◌, ℕ, suc, ◌+◌, ◌<◌, ◌≤◌, true, false, ◌==◌, List, [], ◌∷◌, ◌++◌, Some, All, length, map, decimal, get_or, bytes_eq, codes, arith, refl, ap, ◌∙◌}
+use Rattle.std.specs.List.{list_all}
+use Rattle.std.proofs.lemmas.Bool.{eq-eqb}
+use Rattle.std.proofs.lemmas.List.{append_assoc, length-map}
+use Rattle.std.proofs.lemmas.List.Elements.{All-head, All-tail, All-cons}
+use Rattle.ot_theory.specs.declared.Mark.{Mark}
+use Rattle.ot_theory.specs.declared.Mark.TheVariants.{W, L, E}
+use Rattle.ot_theory.specs.Languages.{Term}
+use Rattle.report_reader.specs.Fields.{words, pieces, classes, prefix_of, choice_of, is_letter, are_marks, is_digit, term_of, terms_of}
+use Rattle.report_text.specs.Spelling.{spaced, prefix, letter, marks, term, terms}
+use Rattle.report_text.proofs.Numerals.{NUMBER_LIMIT, place-decimal}
+use Rattle.report_text.proofs.Parted.{lacks, lacks-append, lacks-joined, pieces-alone, pieces-first, pieces-joined}
+use Rattle.report_text.proofs.Lines.{lacks-other, lacks-decimal, decimal-differs}
+use Rattle.report_text.proofs.Spaced.{join-cons}
+
+-- a number that can be read
+abbrev pub IsSmall : ℕ → Type 0
+IsSmall n = n ≤ NUMBER_LIMIT
+
+-- ---- numbers with spaces between them
+pub decimals-lack : (c : ℕ) → is_digit c ≡ false → (numbers : List ℕ) → All IsSmall numbers → list_all (lacks c) (map decimal numbers) ≡ true
+decimals-lack c other [] small = refl
+decimals-lack c other (n ∷ numbers) small =
+    rw (lacks-decimal c n other (All-head IsSmall n numbers small), decimals-lack c other numbers (All-tail IsSmall n numbers small)) refl
+
+pub spaced-lacks : (c : ℕ) → is_digit c ≡ false → (32 == c) ≡ false → (numbers : List ℕ) → All IsSmall numbers → lacks c (spaced numbers) ≡ true
+spaced-lacks c digit space numbers small = lacks-joined c 32 (map decimal numbers) space (decimals-lack c digit numbers small)
+
+pub words-spaced : (numbers : List ℕ) → 0 < length numbers → All IsSmall numbers → words (spaced numbers) ≡ map decimal numbers
+words-spaced [] some small = absurd (omega (arith, some))
+words-spaced (n ∷ numbers) some small = pieces-joined 32 (decimal n) (map decimal numbers) (decimals-lack 32 refl (n ∷ numbers) small)
+
+-- ---- prefixes
+-- numbers of classes that can be read
+pub record AreCounts (counts : List ℕ) : Type 0 where
+  pub few : length counts ≤ NUMBER_LIMIT
+  pub small : (i : ℕ) → get_or counts i 0 ≤ NUMBER_LIMIT
+
+-- class numbers of the first inputs
+pub record AreClassNumbers (counts numbers : List ℕ) : Type 0 where
+  pub short : length numbers ≤ length counts
+  pub within : (i : ℕ) → i < length numbers → get_or numbers i 0 < get_or counts i 0
+
+classes-spelled : (counts numbers : List ℕ) → ((i : ℕ) → get_or counts i 0 ≤ NUMBER_LIMIT) → length numbers ≤ length counts → ((i : ℕ) → i < length numbers → get_or numbers i 0 < get_or counts i 0)
+    → classes counts (map decimal (map (λ b. b + 1) numbers)) ≡ Some numbers
+classes-spelled counts [] small short within = refl
+classes-spelled [] (a ∷ numbers) small short within = absurd (omega (arith, short))
+classes-spelled (count ∷ counts) (a ∷ numbers) small short within =
+    let below : a < count = within 0 (omega arith) in
+    let few : count ≤ NUMBER_LIMIT = small 0 in
+    let others = classes-spelled counts numbers (λ i. small (suc i)) (omega (arith, short)) (λ i lt. within (suc i) (omega (arith, lt))) in
+    rw (place-decimal count a below few, others) refl
+
+small-numbers : (counts numbers : List ℕ) → ((i : ℕ) → get_or counts i 0 ≤ NUMBER_LIMIT) → ((i : ℕ) → i < length numbers → get_or numbers i 0 < get_or counts i 0)
+    → All IsSmall (map (λ b. b + 1) numbers)
+small-numbers counts [] small within = λ k d below. absurd (omega arith)
+small-numbers [] (a ∷ numbers) small within = absurd (let below : a < 0 = within 0 (omega arith) in omega (arith, below))
+small-numbers (count ∷ counts) (a ∷ numbers) small within =
+    let below : a < count = within 0 (omega arith) in
+    let few : count ≤ NUMBER_LIMIT = small 0 in
+    All-cons IsSmall (a + 1) (map (λ b. b + 1) numbers) (omega (arith, below, few)) (small-numbers counts numbers (λ i. small (suc i)) (λ i lt. within (suc i) (omega (arith, lt))))
+
+no_dash : (a : ℕ) (numbers : List ℕ) → a + 1 ≤ NUMBER_LIMIT → bytes_eq (spaced (map (λ b. b + 1) (a ∷ numbers))) (codes "-") ≡ false
+no_dash a numbers small = rw (join-cons 32 (decimal (a + 1)) (map decimal (map (λ b. b + 1) numbers))) (decimal-differs 45 [] (a + 1) _ refl small)
+
+pub prefix_of-prefix : (counts numbers : List ℕ) → AreCounts counts → AreClassNumbers counts numbers → prefix_of counts (prefix numbers) ≡ Some numbers
+prefix_of-prefix counts [] c h = refl
+prefix_of-prefix counts (a ∷ numbers) c h =
+    let above : ℕ → ℕ = λ b. b + 1 in
+    let small = small-numbers counts (a ∷ numbers) c.small h.within in
+    let split = words-spaced (map above (a ∷ numbers)) (omega arith) small in
+    rw (no_dash a numbers (All-head IsSmall (a + 1) (map above numbers) small), split) (classes-spelled counts (a ∷ numbers) c.small h.short h.within)
+
+pub choice_of-prefix : (counts numbers : List ℕ) → AreCounts counts → AreClassNumbers counts numbers → length numbers ≡ length counts → choice_of counts (prefix numbers) ≡ Some numbers
+choice_of-prefix counts numbers c h full = rw (prefix_of-prefix counts numbers c h, eq-eqb (length numbers) (length counts) full) refl
+
+pub prefix-lacks : (c : ℕ) → is_digit c ≡ false → (32 == c) ≡ false → (45 == c) ≡ false → (counts numbers : List ℕ) → AreCounts counts → AreClassNumbers counts numbers → lacks c (prefix numbers) ≡ true
+prefix-lacks c digit space dash counts [] bounds h = rw dash refl
+prefix-lacks c digit space dash counts (a ∷ numbers) bounds h = spaced-lacks c digit space (map (λ b. b + 1) (a ∷ numbers)) (small-numbers counts (a ∷ numbers) bounds.small h.within)
+
+-- ---- marks
+letter-is : (m : Mark) → is_letter (letter m) ≡ true
+letter-is W = refl
+letter-is L = refl
+letter-is E = refl
+
+letters-are : (list : List Mark) → list_all is_letter (marks list) ≡ true
+letters-are [] = refl
+letters-are (m ∷ list) = rw (letter-is m, letters-are list) refl
+
+pub are_marks-marks : (n : ℕ) (list : List Mark) → length list ≡ n → are_marks n (marks list) ≡ true
+are_marks-marks n list wide = rw (length-map list letter, eq-eqb (length list) n wide, letters-are list) refl
+
+pub marks-lack : (c : ℕ) → is_letter c ≡ false → (list : List Mark) → lacks c (marks list) ≡ true
+marks-lack c other list = lacks-other is_letter c other (marks list) (letters-are list)
+
+-- ---- terms
+-- a class of an input against another one
+pub record IsTermOf (counts : List ℕ) (t : Term) : Type 0 where
+  pub input : t.input < length counts
+  pub winner : t.winner < get_or counts t.input 0
+  pub loser : t.loser < get_or counts t.input 0
+  pub differ : (t.winner == t.loser) ≡ false
+
+term-parts : (t : Term) → term t ≡ decimal (t.input + 1) ++ 58 ∷ (decimal (t.winner + 1) ++ 62 ∷ decimal (t.loser + 1))
+term-parts t = simp append_assoc
+
+pub term-lacks : (c : ℕ) → is_digit c ≡ false → (58 == c) ≡ false → (62 == c) ≡ false → (counts : List ℕ) (t : Term) → AreCounts counts → IsTermOf counts t → lacks c (term t) ≡ true
+term-lacks c digit colon sign counts t bounds h =
+    let i = lacks-decimal c (t.input + 1) digit (omega (arith, h.input, bounds.few)) in
+    let a = lacks-decimal c (t.winner + 1) digit (omega (arith, h.winner, bounds.small t.input)) in
+    let b = lacks-decimal c (t.loser + 1) digit (omega (arith, h.loser, bounds.small t.input)) in
+    let right = lacks-append c (decimal (t.winner + 1)) (62 ∷ decimal (t.loser + 1)) a (rw (sign, b) refl) in
+    rw (term-parts t) (lacks-append c (decimal (t.input + 1)) (58 ∷ (decimal (t.winner + 1) ++ 62 ∷ decimal (t.loser + 1))) i (rw colon right))
+
+pub term_of-term : (counts : List ℕ) (t : Term) → AreCounts counts → IsTermOf counts t → term_of counts (term t) ≡ Some t
+term_of-term counts t bounds h =
+    let few = bounds.small t.input in
+    let small_input : t.input + 1 ≤ NUMBER_LIMIT = omega (arith, h.input, bounds.few) in
+    let small_winner : t.winner + 1 ≤ NUMBER_LIMIT = omega (arith, h.winner, few) in
+    let small_loser : t.loser + 1 ≤ NUMBER_LIMIT = omega (arith, h.loser, few) in
+    let right = decimal (t.winner + 1) ++ 62 ∷ decimal (t.loser + 1) in
+    let plain : lacks 58 right ≡ true = lacks-append 58 (decimal (t.winner + 1)) (62 ∷ decimal (t.loser + 1)) (lacks-decimal 58 (t.winner + 1) refl small_winner) (lacks-decimal 58 (t.loser + 1) refl small_loser) in
+    let sides : pieces 58 (decimal (t.input + 1) ++ 58 ∷ right) ≡ decimal (t.input + 1) ∷ right ∷ [] =
+    pieces-first 58 (decimal (t.input + 1)) right (lacks-decimal 58 (t.input + 1) refl small_input) ∙ ap (λ (others : List (List ℕ)). decimal (t.input + 1) ∷ others) (pieces-alone 58 right plain)
+    in
+    let both : pieces 62 right ≡ decimal (t.winner + 1) ∷ decimal (t.loser + 1) ∷ [] =
+    pieces-first 62 (decimal (t.winner + 1)) (decimal (t.loser + 1)) (lacks-decimal 62 (t.winner + 1) refl small_winner)
+    ∙ ap (λ (others : List (List ℕ)). decimal (t.winner + 1) ∷ others) (pieces-alone 62 (decimal (t.loser + 1)) (lacks-decimal 62 (t.loser + 1) refl small_loser))
+    in
+    rw (
+      term-parts t,
+      sides,
+      both,
+      place-decimal (length counts) t.input h.input bounds.few,
+      place-decimal (get_or counts t.input 0) t.winner h.winner few,
+      place-decimal (get_or counts t.input 0) t.loser h.loser few,
+      h.differ,
+    ) refl
+
+terms-spelled : (counts : List ℕ) (list : List Term) → AreCounts counts → All (IsTermOf counts) list → terms_of counts (map term list) ≡ Some list
+terms-spelled counts [] bounds each = refl
+terms-spelled counts (t ∷ list) bounds each =
+    rw (term_of-term counts t bounds (All-head (IsTermOf counts) t list each), terms-spelled counts list bounds (All-tail (IsTermOf counts) t list each)) refl
+
+each-lacks : (c : ℕ) → is_digit c ≡ false → (58 == c) ≡ false → (62 == c) ≡ false → (counts : List ℕ) (list : List Term) → AreCounts counts → All (IsTermOf counts) list → list_all (lacks c) (map term list) ≡ true
+each-lacks c digit colon sign counts [] bounds each = refl
+each-lacks c digit colon sign counts (t ∷ list) bounds each =
+    rw (term-lacks c digit colon sign counts t bounds (All-head (IsTermOf counts) t list each), each-lacks c digit colon sign counts list bounds (All-tail (IsTermOf counts) t list each)) refl
+
+pub terms-lack : (c : ℕ) → is_digit c ≡ false → (58 == c) ≡ false → (62 == c) ≡ false → (32 == c) ≡ false → (counts : List ℕ) (list : List Term) → AreCounts counts → All (IsTermOf counts) list → lacks c (terms list) ≡ true
+terms-lack c digit colon sign space counts list bounds each = lacks-joined c 32 (map term list) space (each-lacks c digit colon sign counts list bounds each)
+
+pub terms_of-terms : (counts : List ℕ) (list : List Term) → 1 ≤ length list → AreCounts counts → All (IsTermOf counts) list → terms_of counts (words (terms list)) ≡ Some list
+terms_of-terms counts [] some bounds each = absurd (omega (arith, some))
+terms_of-terms counts (t ∷ list) some bounds each =
+    let split = pieces-joined 32 (term t) (map term list) (each-lacks 32 refl refl refl counts (t ∷ list) bounds each) in
+    rw split (terms-spelled counts (t ∷ list) bounds each)
