@@ -1,5 +1,4 @@
-use Rattle.std.proofs.Common.{◌≡◌, rules, false, length}
-use Rattle.std.specs.Prelude.{All}
+use Rattle.std.proofs.Common.{◌≡◌, rules, false}
 use Rattle.ot_theory.specs.Refutations.{no_ranking_keeps}
 use Rattle.otsoft_run.proofs.Nontrivial.{both-widths, both-kept, both-both}
 use Rattle.otsoft_run.proofs.bases.bases_report.Goals as goal

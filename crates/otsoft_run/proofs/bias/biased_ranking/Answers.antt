@@ -1,7 +1,4 @@
 -- The flags are those that the list names, as many as there are constraints.
-use Rattle.std.proofs.Common.{◌≡◌}
-use Rattle.command_words.specs.Words.{named}
-use Rattle.command_words.proofs.Named.{length_named}
 use Rattle.otsoft_run.proofs.bias.biased_ranking.Goals as goal
 
 pub ranking_by-requires-clause-within : goal.ranking_by-requires-clause-within
