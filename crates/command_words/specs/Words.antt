@@ -1,5 +1,5 @@
 -- What the words after the program's name ask for.
-use Rattle.std.specs.Prelude.{ℕ, ◌≤◌, ◌-◌, List, [], ◌∷◌, Bool, ◌&&◌, map, filter, length, drop, slice_index, ◌==◌, nat_lt, nat_le, bytes_eq, codes, option_map, option_and_then, unwrap_or, Option, Some, None, if◌then◌else◌, String, string_bytes, ⊤}
+use Rattle.std.specs.Prelude.{ℕ, ◌≤◌, ◌-◌, ◌^◌, List, [], ◌∷◌, Bool, ◌&&◌, map, filter, length, drop, slice_index, ◌==◌, nat_lt, nat_le, bytes_eq, codes, option_map, option_and_then, unwrap_or, Option, Some, None, if◌then◌else◌, String, string_bytes, ⊤}
 use Rattle.std.specs.List.{before_first, after_first, position_or_len, list_all, list_any, slice_split, range_with_len}
 use Rattle.std.specs.Char.{is_ascii_digit}
 use Rattle.std.specs.Str.Parse.{digits_value}
@@ -111,6 +111,10 @@ workers_in options = or_default 1 (optional (number 20 1 64) (values_of (codes "
 abbrev pub places_in : List Given → Option ℕ
 places_in options = or_default 1024 (optional (number 20 0 4096) (values_of (codes "store") options))
 
+-- the number of a schedule, if the option was given
+abbrev pub schedule_in : List Given → Option (Option ℕ)
+schedule_in options = optional (number 20 0 (2 ^ 64 - 1)) (values_of (codes "schedule") options)
+
 -- the faithfulness constraints that are named, if the option was given
 abbrev pub faith_in : List Given → Option (Option (List ConId))
 faith_in options = optional constraint_list (values_of (codes "faith") options)
@@ -124,8 +128,8 @@ are_among names options = list_all (λ option. is_among names option.name) optio
 
 abbrev pub typology_of : List ℕ → List Given → Option Settings
 typology_of file options =
-    if are_among (codes "workers" ∷ codes "store" ∷ []) options
-    then option_and_then (λ workers. option_map (λ places. Typology file workers places) (places_in options)) (workers_in options)
+    if are_among (codes "workers" ∷ codes "store" ∷ codes "schedule" ∷ []) options
+    then option_and_then (λ workers. option_and_then (λ places. option_map (λ schedule. Typology file workers places schedule) (schedule_in options)) (places_in options)) (workers_in options)
     else None
 
 abbrev pub torder_of : List ℕ → List Given → Option Settings
@@ -168,7 +172,7 @@ settings_of words = option_and_then (λ cut. asked_by cut.positional cut.options
 
 -- the file that a command reads
 abbrev pub file_of : Settings → List ℕ
-file_of (Typology file workers places) = file
+file_of (Typology file workers places schedule) = file
 file_of (Torder file workers places) = file
 file_of (Rank file faith) = file
 file_of (Bases file) = file
@@ -176,7 +180,7 @@ file_of (Hasse file) = file
 
 -- the numbers of the settings are within their limits
 abbrev pub IsWithinLimits : Settings → Type 0
-IsWithinLimits (Typology file workers places) = (1 ≤ workers) × (workers ≤ 64) × (places ≤ 4096)
+IsWithinLimits (Typology file workers places schedule) = (1 ≤ workers) × (workers ≤ 64) × (places ≤ 4096)
 IsWithinLimits (Torder file workers places) = (1 ≤ workers) × (workers ≤ 64) × (places ≤ 4096)
 IsWithinLimits (Rank file faith) = ⊤
 IsWithinLimits (Bases file) = ⊤

@@ -41,11 +41,13 @@ impl FileName {
 /// What the words ask for.
 #[derive(Debug, Drop)]
 pub enum Settings {
-    /// The factorial typology of a file, found by 1 to 64 workers who keep at most `places` contradictions, from 0 to 4,096.
+    /// The factorial typology of a file, found by 1 to 64 workers who keep at most `places` contradictions, from 0 to 4,096; where
+    /// there is the number of a schedule, by the steps of that schedule.
     Typology {
         file: FileName,
         workers: usize,
         places: usize,
+        schedule: Option<u64>,
     },
     /// The implications between the outputs of a file, found by such a search.
     Torder {

@@ -15,7 +15,8 @@ use std::alloc::Global;
 ///
 /// A word that begins with two dashes is an option. Its value follows an equals sign, or is the next word, which must not begin
 /// with a dash. The first word `--` makes all later words positional. Each command takes a file. `typology` and `torder` take the
-/// options `--workers` (1 to 64, or else 1) and `--store` (0 to 4,096, or else 1,024), and `rank` takes `--faith`, a list of
+/// options `--workers` (1 to 64, or else 1) and `--store` (0 to 4,096, or else 1,024), `typology` takes `--schedule` (0 to
+/// 2^64 - 1), and `rank` takes `--faith`, a list of
 /// constraints: numbers from 1 to 128, each of 1 to 3 digits, with one comma between two. `bases` and `hasse` take no option.
 ///
 /// Bad comes where there is another number of positional words, an unknown command, an option that the command does not take
@@ -70,12 +71,13 @@ fn typology_of(alloc: Global, file: &str, options: &[GivenOption]) -> Result<Set
     ensures bad { result ≡ Err WordsError.Bad → words_of.typology_of file.now (map lines.given options.now) ≡ None }
     ensures within { IfOk result (λ settings. words_of.IsWithinLimits settings) }
 {
-    if !are_among(options, &["workers", "store"]) {
+    if !are_among(options, &["workers", "store", "schedule"]) {
         return Err(WordsError::Bad);
     }
     Ok(Settings::Typology {
         workers: workers_in(options)?,
         places: places_in(options)?,
+        schedule: schedule_in(options)?,
         file: FileName::of(alloc, file)?,
     })
 }
@@ -154,6 +156,14 @@ fn places_in(options: &[GivenOption]) -> Result<usize, WordsError>
 {
     let given = number(options, "store", 0, 4_096)?;
     Ok(given.unwrap_or(1_024) as usize)
+}
+
+/// The number of a schedule, if the option was given.
+fn schedule_in(options: &[GivenOption]) -> Result<Option<u64>, WordsError>
+    ensures given { IfOk result (λ schedule. words_of.schedule_in (map lines.given options.now) ≡ Some schedule) }
+    ensures bad { IfErr result (λ error. (error ≡ WordsError.Bad) × (words_of.schedule_in (map lines.given options.now) ≡ None)) }
+{
+    number(options, "schedule", 0, u64::MAX)
 }
 
 /// The constraints that were named as faithfulness constraints, if the option was given.

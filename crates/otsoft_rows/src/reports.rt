@@ -393,3 +393,36 @@ fn files_give_their_reports(rt: HostRuntime) -> Result<(), Fail> {
     }
     Ok(())
 }
+
+#[test]
+fn every_schedule_gives_the_same_report(rt: HostRuntime) -> Result<(), Fail> {
+    let rows: [(&[&str], [&str; 3]); 3] = [
+        (
+            &["--workers", "3"],
+            ["--schedule=0", "--schedule=1", "--schedule=2"],
+        ),
+        (
+            &["--workers=8", "--store=0"],
+            ["--schedule=3", "--schedule=4", "--schedule=5"],
+        ),
+        (
+            &["--store", "1"],
+            ["--schedule=7", "--schedule=8", "--schedule=9"],
+        ),
+    ];
+    for row in &[TWO_CODAS, BOUNDED] {
+        let outside = Outside::sound("a.txt", row.file.as_bytes());
+        for (options, schedules) in &rows {
+            for schedule in schedules {
+                let mut words = Vec::new(rt.alloc());
+                words.extend_from_slice(&["typology", "a.txt", schedule])?;
+                words.extend_from_slice(options)?;
+                let want = (Status::Done, row.report.as_bytes(), &b""[..]);
+                let case = row.name;
+                let found = difference(rt.alloc(), words.as_slice(), &outside, want)?;
+                assert_eq!(rt; found, None, "{case}, {schedule}");
+            }
+        }
+    }
+    Ok(())
+}

@@ -14,6 +14,7 @@ enum Asked {
         file: &'static str,
         workers: usize,
         places: usize,
+        schedule: Option<u64>,
     },
     Torder {
         workers: usize,
@@ -33,6 +34,17 @@ fn typology(workers: usize, places: usize) -> Asked {
         file: "A",
         workers,
         places,
+        schedule: None,
+    }
+}
+
+/// The typology of the file `A` by three workers under the schedule of a number.
+fn schedule(number: u64) -> Asked {
+    Asked::Typology {
+        file: "A",
+        workers: 3,
+        places: 1_024,
+        schedule: Some(number),
     }
 }
 
@@ -52,6 +64,7 @@ fn plain(file: &'static str) -> Asked {
         file,
         workers: 1,
         places: 1_024,
+        schedule: None,
     }
 }
 
@@ -78,13 +91,15 @@ fn is_asked(answer: &Result<Settings, WordsError>, asked: &Asked) -> bool {
                 file,
                 workers,
                 places,
+                schedule,
             },
             Asked::Typology {
                 file: name,
                 workers: count,
                 places: room,
+                schedule: number,
             },
-        ) => file.as_str() == *name && workers == count && places == room,
+        ) => { file.as_str() == *name && workers == count && places == room && schedule == number }
         (
             Settings::Torder {
                 file,
@@ -108,7 +123,7 @@ fn is_asked(answer: &Result<Settings, WordsError>, asked: &Asked) -> bool {
 #[test]
 fn words_give_their_settings(rt: HostRuntime) -> Result<(), Fail> {
     let rank = Asked::Rank { faith: None };
-    let rows: [(&str, &[&str], Asked); 33] = [
+    let rows: [(&str, &[&str], Asked); 36] = [
         ("no option", &["typology", "A"], plain("A")),
         ("a ranking", &["rank", "A"], rank),
         ("a file of no name", &["typology", ""], plain("")),
@@ -161,6 +176,32 @@ fn words_give_their_settings(rt: HostRuntime) -> Result<(), Fail> {
             "options before the dashes",
             &["typology", "--workers", "2", "--", "A"],
             typology(2, 1_024),
+        ),
+        (
+            "the schedule of nought",
+            &["typology", "A", "--workers=3", "--schedule", "0"],
+            schedule(0),
+        ),
+        (
+            "the greatest schedule",
+            &[
+                "--schedule=18446744073709551615",
+                "typology",
+                "--workers",
+                "3",
+                "A",
+            ],
+            schedule(u64::MAX),
+        ),
+        (
+            "zeros before a schedule",
+            &[
+                "typology",
+                "--workers=3",
+                "--schedule=00000000000000000042",
+                "A",
+            ],
+            schedule(42),
         ),
         ("a ranking behind dashes", &["rank", "--", "A"], rank),
         (
@@ -229,7 +270,7 @@ fn words_give_their_settings(rt: HostRuntime) -> Result<(), Fail> {
 
 #[test]
 fn words_give_no_settings(rt: HostRuntime) -> Result<(), Fail> {
-    let rows: [(&str, &[&str]); 65] = [
+    let rows: [(&str, &[&str]); 69] = [
         ("no word", &[]),
         ("a command alone", &["typology"]),
         ("a ranking alone", &["rank"]),
@@ -257,6 +298,19 @@ fn words_give_no_settings(rt: HostRuntime) -> Result<(), Fail> {
         (
             "an option of no command",
             &["torder", "A", "--schedule", "1"],
+        ),
+        (
+            "a schedule past 64 bits",
+            &["typology", "A", "--schedule", "18446744073709551616"],
+        ),
+        (
+            "a schedule of 21 digits",
+            &["typology", "A", "--schedule", "000000000000000000001"],
+        ),
+        ("no schedule", &["typology", "A", "--schedule"]),
+        (
+            "two schedules",
+            &["typology", "A", "--schedule=1", "--schedule=1"],
         ),
         (
             "faithfulness of a typology",

@@ -38,8 +38,13 @@ pub(crate) fn report_of(
     ensures written { IfOk result (λ report. IsTrue (is_written report.status)) }
 {
     match settings {
-        Settings::Typology { places, .. } => Ok(Report {
-            text: typology_report(alloc, posed, *places)?,
+        Settings::Typology {
+            workers,
+            places,
+            schedule,
+            ..
+        } => Ok(Report {
+            text: typology_report(alloc, posed, *workers, *places, *schedule)?,
             status: Status::Done,
         }),
         Settings::Torder { places, .. } => Ok(Report {

@@ -3,6 +3,7 @@
 ghost use Rattle.std.specs.Prelude.{◌≡◌, ◌≤◌, IfOk};
 ghost use Rattle.ot_base.specs.Tableaus.{problem_of};
 ghost use Rattle.ot_base.specs.declared.limits.TheConstants.{PLACE_LIMIT};
+ghost use Rattle.search_machine.specs.declared.machine.TheConstants.{WORKER_LIMIT};
 ghost use Rattle.otsoft_run.specs.Answers.{IsTypologyReport, IsTorderReport};
 
 use crate::judging::Posed;
@@ -11,19 +12,27 @@ use ot_base::Label;
 use report_text::{torder_text, typology_text};
 use std::alloc::Global;
 use t_orders::implications;
-use typology_core::search_alone;
+use typology_core::{run_schedule, search_alone};
 
-/// The report of the languages, cuts and certificates of a tableau, found with so many places for contradictions.
+/// The report of the languages, cuts and certificates of a tableau, found with so many places for contradictions: by one worker,
+/// or by so many workers under the schedule of a number.
 pub(crate) fn typology_report(
     alloc: Global,
     posed: &Posed,
+    workers: usize,
     places: usize,
+    schedule: Option<u64>,
 ) -> Result<Label, NoMemory>
+    requires some_workers { 1 ≤ workers }
+    requires few_workers { workers ≤ WORKER_LIMIT }
     requires few { places ≤ PLACE_LIMIT }
     requires poses { posed.now.problem ≡ problem_of posed.now.tableau }
     ensures { IfOk result (λ report. IsTypologyReport posed.now report) }
 {
-    let alone = search_alone(alloc, &posed.problem, places)?;
+    let alone = match schedule {
+        Some(number) => run_schedule(alloc, &posed.problem, workers, places, number)?,
+        None => search_alone(alloc, &posed.problem, places)?,
+    };
     typology_text(alloc, &posed.tableau, &posed.problem, &alone.typology)
 }
 
