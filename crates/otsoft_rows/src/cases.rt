@@ -26,7 +26,10 @@ pub(crate) fn first_difference(
     cases: &[Case],
 ) -> Result<Option<(&'static str, &'static str)>, NoMemory> {
     for case in cases {
-        let (command, head, tail) = (case.words[0], case.given.head, case.tail);
+        let Some(command) = case.words.first() else {
+            return Ok(Some((case.name, "the words")));
+        };
+        let (head, tail) = (case.given.head, case.tail);
         let Ok(report) = format!(in alloc; "otsoft report 1\t{command}\n{head}{tail}") else {
             return Err(NoMemory);
         };

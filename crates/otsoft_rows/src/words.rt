@@ -5,6 +5,8 @@ use crate::reports::CODA;
 use erc_vectors::{ConId, List};
 use ot_base::{Failed, Files, MemSink};
 use otsoft_run::{Settings, Status, WordsError, run, settings_of};
+use std::alloc::Global;
+use std::process::Abort;
 use std::test::Fail;
 
 /// What words ask for.
@@ -268,6 +270,16 @@ fn words_give_their_settings(rt: HostRuntime) -> Result<(), Fail> {
     Ok(())
 }
 
+/// Whether none of these words gives settings.
+fn give_no_settings(rt: &impl Abort, alloc: Global, rows: &[(&str, &[&str])]) -> Result<(), Fail> {
+    for (name, words) in rows {
+        let words = owned(alloc, words)?;
+        let answer = settings_of(alloc, words.as_slice());
+        assert!(rt; is_asked(&answer, &Asked::Bad), "{name}");
+    }
+    Ok(())
+}
+
 #[test]
 fn words_give_no_settings(rt: HostRuntime) -> Result<(), Fail> {
     let rows: [(&str, &[&str]); 69] = [
@@ -389,12 +401,7 @@ fn words_give_no_settings(rt: HostRuntime) -> Result<(), Fail> {
             &["--store=1", "typology", "A", "--store", "1"],
         ),
     ];
-    for (name, words) in &rows {
-        let words = owned(rt.alloc(), words)?;
-        let answer = settings_of(rt.alloc(), words.as_slice());
-        assert!(rt; is_asked(&answer, &Asked::Bad), "{name}");
-    }
-    Ok(())
+    give_no_settings(&rt, rt.alloc(), &rows)
 }
 
 /// Files of which none opens, and which count the opens.
