@@ -3,13 +3,7 @@
 #![tactic(auto)]
 
 #[cfg(test)]
-mod biases;
-#[cfg(test)]
-mod cases;
-#[cfg(test)]
 mod faults;
-#[cfg(test)]
-mod listings;
 #[cfg(test)]
 mod outside;
 #[cfg(test)]
