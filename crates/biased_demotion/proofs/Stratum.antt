@@ -35,6 +35,22 @@ pub record AreMasksOf (faith : List Bool) (levels : List ℕ) (set : List (List 
   pub small_placed : placed < 2 ^ 64
   pub small_losses : losses < 2 ^ 64
 
+pub AreMasksOf-given : (faith : List Bool) (levels : List ℕ) (set : List (List Mark)) (faithfulness markedness placed losses wins : ℕ) → length faith ≤ 64 → length levels ≡ length faith → All (λ marks. length marks ≡ length faith) set
+    → Shows faithfulness (is_faithfulness faith) → Shows markedness (is_markedness faith) → Shows placed (λ c. nat_lt 0 (slice_index levels c)) → Shows losses (is_blocked (levels_of placed) set) → Shows wins (has_open_win (levels_of placed) set)
+    → placed < 2 ^ 64 → losses < 2 ^ 64 → AreMasksOf faith levels set faithfulness markedness placed losses wins
+AreMasksOf-given faith levels set faithfulness markedness placed losses wins few long widths of_faithfulness of_markedness of_placed of_losses of_wins small_placed small_losses = record {
+  few = few;
+  long = long;
+  widths = widths;
+  of_faithfulness = of_faithfulness;
+  of_markedness = of_markedness;
+  of_placed = of_placed;
+  of_losses = of_losses;
+  of_wins = of_wins;
+  small_placed = small_placed;
+  small_losses = small_losses;
+}
+
 -- what a stratum says: it is the next one, its constraints are free, and it has none only where none is free
 pub record IsStratum (faith : List Bool) (levels : List ℕ) (set : List (List Mark)) (stratum : ℕ) : Type 0 where
   pub next : 0 < stratum → IsNext faith levels set (filter (has_bit stratum) (numbers_below (length faith)))
@@ -62,10 +78,6 @@ of_both true f h = refl
 of_both false f h = sym h
 
 -- ---- the mask of one constraint
-one_test : (t : Bool) → (cond t 1 0 == 1) ≡ t
-one_test true = refl
-one_test false = refl
-
 power_bit : (c d : ℕ) → bit_at (2 ^ c) d ≡ cond (d == c) 1 0
 power_bit c d = elim (eqb_tells d c) [
   | inl same ↦ rw (same.0, same.1) (bit_at-pow_same c)

@@ -54,9 +54,6 @@ closed-mask marks w placed short small m = elim (eqb_tells (bit_and w placed) 0)
         (and_from _ _ win (lt-ltb _ _ (omega (arith, level-bit placed k h.0, bit_at-lt w k))))
 
 -- ---- the conditions so far, and one more
-pub blocked-none : (placed : ℕ) (set : List (List Mark)) (c : ℕ) → bit_at 0 c ≡ cond (is_blocked (levels_of placed) (take 0 set) c) 1 0
-blocked-none placed set c = bit_at-zero c
-
 max_bits : (a b : Bool) → max (cond a 1 0) (cond b 1 0) ≡ cond (a || b) 1 0
 max_bits true true = refl
 max_bits true false = refl

@@ -15,5 +15,5 @@ mod tests;
 
 pub use demoted::{Demoted, demote, least_hierarchy, open_flags};
 pub use order::order_of;
-pub use rounds::is_hopeless;
+pub use rounds::{blocked_by, is_hopeless};
 pub use shared::demoted_goes;

@@ -57,8 +57,8 @@ pub fn is_hopeless(n: usize, set: &[Condition]) -> bool
     false
 }
 
-/// The constraints at which a condition has L of whose W's none is placed.
-fn blocked_by(placed: u64, set: &[Condition]) -> u64
+/// The constraints at which a condition has L of whose W's none is placed, as bits. The placed constraints are the bits of a mask.
+pub fn blocked_by(placed: u64, set: &[Condition]) -> u64
     requires { All (λ marks. length marks ≤ LIMIT) set.now }
     ensures { (c : ℕ) → bit_at result c ≡ (if is_blocked (levels_of placed) set.now c then 1 else 0) }
 {

@@ -50,6 +50,7 @@ fn the_masks_have_a_bit_for_each_win_and_loss(rt: HostRuntime) {
             (wins, losses),
             "{name}"
         );
+        assert_eq!(rt; condition.has_both(), wins != 0 && losses != 0, "{name}");
         let negated = condition.negated();
         assert_eq!(rt;
             (negated.w_mask(), negated.l_mask()),

@@ -1,12 +1,10 @@
 //! Which constraints stand below one in every ranking that keeps a set of conditions.
 
-ghost use Rattle.std.specs.Prelude.{◌≡◌, ℕ, ◌<◌, ◌≤◌, false, All, length, if◌then◌else◌};
-ghost use Rattle.std.specs.Int.{bit_at};
-ghost use Rattle.ot_theory.specs.Demotion.{is_blocked};
+ghost use Rattle.std.specs.Prelude.{◌≡◌, ◌<◌, ◌≤◌, false, All, length};
 ghost use Rattle.ot_theory.specs.Refutations.{no_ranking_keeps};
-ghost use Rattle.demotion.specs.Placed.{levels_of};
 ghost use Rattle.hasse_listing.specs.Masks.{AreBelow};
 
+use demotion::blocked_by;
 use erc_vectors::{Condition, LIMIT, Mask};
 
 /// The constraints that stand below constraint c in every ranking that keeps the conditions, as bits. They are those that
@@ -27,18 +25,4 @@ pub(crate) fn necessarily_below(n: usize, c: usize, set: &[Condition]) -> Mask
         }
         placed = more;
     }
-}
-
-/// The constraints at which a condition has L of whose W's none is placed.
-fn blocked_by(placed: Mask, set: &[Condition]) -> Mask
-    requires { All (λ marks. length marks ≤ LIMIT) set.now }
-    ensures { (c : ℕ) → bit_at result c ≡ (if is_blocked (levels_of placed) set.now c then 1 else 0) }
-{
-    let mut blocked = 0;
-    for condition in set {
-        if condition.w_mask() & placed == 0 {
-            blocked |= condition.l_mask();
-        }
-    }
-    blocked
 }

@@ -34,11 +34,7 @@ pub fn lane_to(own: &mut Deque, mine: bool) -> Result<Lane, NoMemory>
     ensures err { OnErr result (worker_view own.new ≡ worker_view own.old) }
     ensures own { IfOk result (λ _. worker_view own.new ≡ account (worker_view own.old).owns ((worker_view own.old).parts - (if mine then 0 else 1)) (worker_view own.old).puts (worker_view own.old).gets) }
 {
-    match own.stealer() {
-        Ok(thief) => {
-            let pass = pass_of(own, mine);
-            Ok(Lane::of(thief, pass))
-        }
-        Err(_) => Err(NoMemory),
-    }
+    let thief = own.stealer()?;
+    let pass = pass_of(own, mine);
+    Ok(Lane::of(thief, pass))
 }

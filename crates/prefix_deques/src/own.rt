@@ -20,10 +20,7 @@ pub const ROOM: usize = 64;
 pub fn open(alloc: Global) -> Result<Deque, NoMemory>
     ensures { IfOk result (λ w. (worker_flavor w ≡ 0) × (worker_port w ≡ 0) × (worker_index w ≡ 0) × (ROOM ≤ worker_capacity w) × (worker_view w ≡ account true whole [] [])) }
 {
-    match Deque::fifo_as(alloc, ROOM) {
-        Ok(worker) => Ok(worker),
-        Err(_) => Err(NoMemory),
-    }
+    Ok(Deque::fifo_as(alloc, ROOM)?)
 }
 
 /// Puts a prefix at the back.

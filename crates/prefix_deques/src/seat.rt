@@ -183,8 +183,5 @@ fn rest(idle: &mut Vec<u64>)
 fn zeros(alloc: Global, n: usize) -> Result<Vec<u64>, NoMemory>
     ensures { IfOk result (λ zeros. zeros.items ≡ replicate n 0) }
 {
-    match vec![in alloc; 0u64; n] {
-        Ok(zeros) => Ok(zeros),
-        Err(_) => Err(NoMemory),
-    }
+    Ok(vec![in alloc; 0u64; n]?)
 }

@@ -157,12 +157,6 @@ shows_last places f g h x c n l none e same at =
     λ k from is. elim (pushed g.values x c k (subst (λ (v : FrontView). slice_get v.values k ≡ Some c) e is)) [ inl m ↦ absurd (none k from m) | inr m ↦ m.0 ∙ sym i ] in
     (omega arith, omega arith, ap (λ (v : FrontView). slice_get v.values (n - 1)) e ∙ (ap (slice_get (g.values ++ x ∷ [])) i ∙ (at_end g.values x ∙ ap Some same)), only)
 
--- a front holds no more than its store has places
-pub held_within : (store : List ℕ) (f g : FrontView) (n : ℕ) → f.store ≡ store → Learns f g → n ≡ length g.values → n ≤ length g.store → length g.values ≤ length store
-held_within store f g n e l m w =
-    let a = ap (λ (v : FrontView). length v.store) l.after in
-    let b = ap length e in omega arith
-
 -- signs of these cells that know nothing
 pub record AreBlank (names : List ℕ) (signs : List (Sign C)) : Type 0 where
   pub cells : cells_of signs ≡ names

@@ -18,5 +18,6 @@ mod store;
 mod tests;
 
 pub use front::Front;
+pub use ot_base::PLACE_LIMIT;
 pub use shared::stores_go;
-pub use store::{Kept, PLACE_LIMIT, Store};
+pub use store::{Kept, Store};

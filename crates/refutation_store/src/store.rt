@@ -1,6 +1,7 @@
 //! The row of places.
 
 ghost use Rattle.std.specs.Prelude.{◌≡◌, ◌+◌, ◌<◌, ◌≤◌, [], ◌∷◌, ◌++◌, length, IfOk, IfErr, OnErr, Some, slice_get, MatchOption, IsTrue, ◌↔◌};
+ghost use Rattle.ot_base.specs.declared.limits.TheConstants.{PLACE_LIMIT};
 ghost use Rattle.refutation_store.specs.Fronts.{Begins, Grows, Learns, IsKept, IsMissed, NotMet};
 
 use crate::front::Front;
@@ -10,9 +11,6 @@ use once_cell::race::OnceBox;
 use refutation::Contradiction;
 use std::alloc::Global;
 use std::marker::Model;
-
-/// The most places that a store has.
-pub const PLACE_LIMIT: usize = 4096;
 
 /// What `keep` found: the place, from 0 on, that shows an equal contradiction, or that the front holds all places.
 #[derive(Clone, Copy, Debug, PartialEq, Eq)]
@@ -51,6 +49,13 @@ impl Store {
             };
         }
         Ok(Store { cells, alloc })
+    }
+
+    /// The number of places.
+    pub fn places(&self) -> usize
+        ensures { result ≡ length self.now }
+    {
+        self.cells.len()
     }
 
     /// A front of this store that holds nothing yet.

@@ -2,4 +2,4 @@ pub mod LinesInTurn
 pub mod WordsInTurn
 pub mod MorePieces
 pub mod Ranked
-pub mod Read
+pub mod Examples

@@ -10,10 +10,6 @@ use Rattle.report_reader.specs.Grammar.{◌>>=◌, Reading, Fails, test_at, test
 abbrev pub with_front : {A : Type 0} → List A → Reading (List A) → Reading (List A)
 with_front front read = read >>= λ x. Ok (front ++ x.0, x.1)
 
-pub with_front-nil : {A : Type 0} (read : Reading (List A)) → with_front [] read ≡ read
-with_front-nil (Ok x) = refl
-with_front-nil (Err left) = refl
-
 regroup : {A : Type 0} (front : List A) (a : A) (read : Reading (List A)) → with_front front (read >>= λ x. Ok (a ∷ x.0, x.1)) ≡ with_front (front ++ a ∷ []) read
 regroup front a (Ok x) = ap (λ (ns : List _). Ok (ns, x.1)) (simp append_assoc)
 regroup front a (Err left) = refl
@@ -31,12 +27,6 @@ ends misreads.NoMemory item front count i bytes total lt h so_far = tt
 ends (misreads.Left left) item front count i bytes total lt h so_far =
     let k : count - i ≡ suc (count - (i + 1)) = omega arith in
     let one : with_front front (each_at item (i + 1) (count - i) bytes) ≡ Err left = rw (k, h) refl in
-    sym so_far ∙ one
-
-pub is_done : {A : Type 0} (item : ℕ → List ℕ → Reading A) (front : List A) (count i : ℕ) (bytes : List ℕ) (total : Reading (List A)) → count ≤ i → with_front front (each_at item (i + 1) (count - i) bytes) ≡ total → total ≡ Ok (front, bytes)
-is_done item front count i bytes total le so_far =
-    let k : count - i ≡ 0 = omega arith in
-    let one : with_front front (each_at item (i + 1) (count - i) bytes) ≡ Ok (front, bytes) = rw k (ap (λ (ns : List _). Ok (ns, bytes)) (append-nil front)) in
     sym so_far ∙ one
 
 -- ---- lines without a value

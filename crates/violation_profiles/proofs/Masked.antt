@@ -53,37 +53,37 @@ lane_of : (m s c : ℕ) → s ≤ c → bit_at (m * 2 ^ s) c ≡ bit_at m (c - s
 lane_of m s c from = let same : m * 2 ^ s ≡ m * 2 ^ s + 0 = omega arith in rw same (bit_at_cat_high m s 0 c (pow_pos s) from)
 
 abbrev lanes : ℕ → List ℕ → List ℕ → List Bool
-lanes s xs ys = zip2 nat_lt (chunk s 16 xs) (chunk s 16 ys)
+lanes s xs ys = zip2 nat_lt (chunk s 4 xs) (chunk s 4 ys)
 
-length-lanes : (s : ℕ) (xs ys : List ℕ) → s + 16 ≤ length xs → s + 16 ≤ length ys → length (lanes s xs ys) ≡ 16
+length-lanes : (s : ℕ) (xs ys : List ℕ) → s + 4 ≤ length xs → s + 4 ≤ length ys → length (lanes s xs ys) ≡ 4
 length-lanes s xs ys x y =
-    let long = length-chunk s 16 xs x in
-    let same = length-chunk s 16 ys y in
-    length-zip2 nat_lt (chunk s 16 xs) (chunk s 16 ys) (long ∙ sym same) ∙ long
+    let long = length-chunk s 4 xs x in
+    let same = length-chunk s 4 ys y in
+    length-zip2 nat_lt (chunk s 4 xs) (chunk s 4 ys) (long ∙ sym same) ∙ long
 
 -- what the lanes of a comparison give as bits, moved to where they begin
-pub lanes-shifted : (s : ℕ) (xs ys : List ℕ) → s + 16 ≤ length xs → s + 16 ≤ length ys → s + 16 ≤ 64
-    → mask_l (map (top 31) (zip2 (λ a b. cond (nat_lt a b) (2 ^ 32 - 1) 0) (chunk s 16 xs) (chunk s 16 ys))) % 2 ^ 64 * 2 ^ s % 2 ^ 64 ≡ mask_l (lanes s xs ys) * 2 ^ s
+pub lanes-shifted : (s : ℕ) (xs ys : List ℕ) → s + 4 ≤ length xs → s + 4 ≤ length ys → s + 4 ≤ 64
+    → mask_l (map (top 31) (zip2 (λ a b. cond (nat_lt a b) (2 ^ 32 - 1) 0) (chunk s 4 xs) (chunk s 4 ys))) % 2 ^ 64 * 2 ^ s % 2 ^ 64 ≡ mask_l (lanes s xs ys) * 2 ^ s
 lanes-shifted s xs ys x y small =
     let long = length-lanes s xs ys x y in
-    let fits : mask_l (lanes s xs ys) < 2 ^ 16 = rw long at (mask_l-lt (lanes s xs ys)) in
-    let product : mask_l (lanes s xs ys) * 2 ^ s < 2 ^ 16 * 2 ^ s = mul-lt-mul_of_pos_right fits (pow_pos s) in
-    let most : 2 ^ (16 + s) ≤ 2 ^ 64 = pow-le-pow_right {n = 2} (omega arith) {i = 16 + s} {j = 64} (omega arith) in
-    let below : mask_l (lanes s xs ys) * 2 ^ s < 2 ^ 64 = (let sum = pow-add 2 16 s in omega (arith, sum, product, most)) in
-    rw (tops_compared w32 nat_lt (chunk s 16 xs) (chunk s 16 ys), mask_l-mod (lanes s xs ys) 64 (omega (arith, long))) (mod-eq_of_lt below)
+    let fits : mask_l (lanes s xs ys) < 2 ^ 4 = rw long at (mask_l-lt (lanes s xs ys)) in
+    let product : mask_l (lanes s xs ys) * 2 ^ s < 2 ^ 4 * 2 ^ s = mul-lt-mul_of_pos_right fits (pow_pos s) in
+    let most : 2 ^ (4 + s) ≤ 2 ^ 64 = pow-le-pow_right {n = 2} (omega arith) {i = 4 + s} {j = 64} (omega arith) in
+    let below : mask_l (lanes s xs ys) * 2 ^ s < 2 ^ 64 = (let sum = pow-add 2 4 s in omega (arith, sum, product, most)) in
+    rw (tops_compared w32 nat_lt (chunk s 4 xs) (chunk s 4 ys), mask_l-mod (lanes s xs ys) 64 (omega (arith, long))) (mod-eq_of_lt below)
 
-lane_at : (s c : ℕ) (xs ys : List ℕ) → s + 16 ≤ length xs → s + 16 ≤ length ys → s ≤ c → c < s + 16 → get_or (lanes s xs ys) (c - s) false ≡ nat_lt (slice_index xs c) (slice_index ys c)
+lane_at : (s c : ℕ) (xs ys : List ℕ) → s + 4 ≤ length xs → s + 4 ≤ length ys → s ≤ c → c < s + 4 → get_or (lanes s xs ys) (c - s) false ≡ nat_lt (slice_index xs c) (slice_index ys c)
 lane_at s c xs ys x y from below =
     let at : s + (c - s) ≡ c = omega arith in
-    let long = length-chunk s 16 xs x in
-    let same = length-chunk s 16 ys y in
-    get_or-zip2 nat_lt (chunk s 16 xs) (chunk s 16 ys) (c - s) 0 0 false (omega arith) (omega arith)
-    ∙ rw (get_or-chunk s 16 xs (c - s) 0 (omega arith), get_or-chunk s 16 ys (c - s) 0 (omega arith), at) refl
+    let long = length-chunk s 4 xs x in
+    let same = length-chunk s 4 ys y in
+    get_or-zip2 nat_lt (chunk s 4 xs) (chunk s 4 ys) (c - s) 0 0 false (omega arith) (omega arith)
+    ∙ rw (get_or-chunk s 4 xs (c - s) 0 (omega arith), get_or-chunk s 4 ys (c - s) 0 (omega arith), at) refl
 
 -- a mark that passes a test where the one list has less than the other
-IsMask-lanes : (test : Mark → Bool) (marks : List Mark) (xs ys : List ℕ) (s mask : ℕ) → test E ≡ false → s + 16 ≤ length marks → s + 16 ≤ length xs → s + 16 ≤ length ys
-    → ((c : ℕ) → c < s + 16 → test (mark_at marks c) ≡ nat_lt (slice_index xs c) (slice_index ys c)) → IsMask test (take s marks) mask → IsMask test (take (s + 16) marks) (bit_or mask (mask_l (lanes s xs ys) * 2 ^ s))
-IsMask-lanes test marks xs ys s mask even within x y tests h c = bit_at_or mask (mask_l (lanes s xs ys) * 2 ^ s) c ∙ by (cases_lt c s) (cases_lt c (s + 16))
+IsMask-lanes : (test : Mark → Bool) (marks : List Mark) (xs ys : List ℕ) (s mask : ℕ) → test E ≡ false → s + 4 ≤ length marks → s + 4 ≤ length xs → s + 4 ≤ length ys
+    → ((c : ℕ) → c < s + 4 → test (mark_at marks c) ≡ nat_lt (slice_index xs c) (slice_index ys c)) → IsMask test (take s marks) mask → IsMask test (take (s + 4) marks) (bit_or mask (mask_l (lanes s xs ys) * 2 ^ s))
+IsMask-lanes test marks xs ys s mask even within x y tests h c = bit_at_or mask (mask_l (lanes s xs ys) * 2 ^ s) c ∙ by (cases_lt c s) (cases_lt c (s + 4))
   where
     m : ℕ
     m = mask_l (lanes s xs ys)
@@ -91,26 +91,26 @@ IsMask-lanes test marks xs ys s mask even within x y tests h c = bit_at_or mask 
     none : s ≤ c → bit_at mask c ≡ 0
     none from = h c ∙ ap (λ (t : Bool). cond t 1 0) (ap test (get_or_past (take s marks) c E (omega (arith, length-take-le s marks (omega arith)))) ∙ even)
 
-    by : (c < s) ⊎ (s ≤ c) → (c < s + 16) ⊎ (s + 16 ≤ c) → max (bit_at mask c) (bit_at (m * 2 ^ s) c) ≡ cond (test (mark_at (take (s + 16) marks) c)) 1 0
+    by : (c < s) ⊎ (s ≤ c) → (c < s + 4) ⊎ (s + 4 ≤ c) → max (bit_at mask c) (bit_at (m * 2 ^ s) c) ≡ cond (test (mark_at (take (s + 4) marks) c)) 1 0
     by (inl before) r =
-        let same : mark_at (take s marks) c ≡ mark_at (take (s + 16) marks) c = get_or-take s marks c E before ∙ sym (get_or-take (s + 16) marks c E (omega arith)) in
+        let same : mark_at (take s marks) c ≡ mark_at (take (s + 4) marks) c = get_or-take s marks c E before ∙ sym (get_or-take (s + 4) marks c E (omega arith)) in
         rw (lane_before m s c before, ← same) (omega (arith, h c))
     by (inr from) (inl below) =
         let bit : bit_at m (c - s) ≡ cond (test (mark_at marks c)) 1 0 = bit_mask_l (lanes s xs ys) (c - s) ∙ ap (λ (t : Bool). cond t 1 0) (lane_at s c xs ys x y from below ∙ sym (tests c below)) in
-        rw (lane_of m s c from, none from, bit, get_or-take (s + 16) marks c E below) (omega arith)
+        rw (lane_of m s c from, none from, bit, get_or-take (s + 4) marks c E below) (omega arith)
     by (inr from) (inr past) =
         let bit : bit_at m (c - s) ≡ 0 = bit_mask_l (lanes s xs ys) (c - s) ∙ ap (λ (t : Bool). cond t 1 0) (get_or_past (lanes s xs ys) (c - s) false (omega (arith, length-lanes s xs ys x y))) in
-        let out : test (mark_at (take (s + 16) marks) c) ≡ false = ap test (get_or_past (take (s + 16) marks) c E (omega (arith, length-take-le (s + 16) marks within))) ∙ even in
+        let out : test (mark_at (take (s + 4) marks) c) ≡ false = ap test (get_or_past (take (s + 4) marks) c E (omega (arith, length-take-le (s + 4) marks within))) ∙ even in
         rw (lane_of m s c from, none from, bit, out) refl
 
-pub wins-lanes : (a b : List ℕ) (s mask : ℕ) → length b ≡ length a → s + 16 ≤ length a → IsMask is_win (take s (condition a b)) mask
-    → IsMask is_win (take (s + 16) (condition a b)) (bit_or mask (mask_l (lanes s a b) * 2 ^ s))
+pub wins-lanes : (a b : List ℕ) (s mask : ℕ) → length b ≡ length a → s + 4 ≤ length a → IsMask is_win (take s (condition a b)) mask
+    → IsMask is_win (take (s + 4) (condition a b)) (bit_or mask (mask_l (lanes s a b) * 2 ^ s))
 wins-lanes a b s mask long within h =
     IsMask-lanes is_win (condition a b) a b s mask refl (omega (arith, length-condition a b long)) within (omega arith)
     (λ c below. ap is_win (mark_at-condition a b c (sym long)) ∙ is_win-mark_of (slice_index a c) (slice_index b c)) h
 
-pub losses-lanes : (a b : List ℕ) (s mask : ℕ) → length b ≡ length a → s + 16 ≤ length a → IsMask is_loss (take s (condition a b)) mask
-    → IsMask is_loss (take (s + 16) (condition a b)) (bit_or mask (mask_l (lanes s b a) * 2 ^ s))
+pub losses-lanes : (a b : List ℕ) (s mask : ℕ) → length b ≡ length a → s + 4 ≤ length a → IsMask is_loss (take s (condition a b)) mask
+    → IsMask is_loss (take (s + 4) (condition a b)) (bit_or mask (mask_l (lanes s b a) * 2 ^ s))
 losses-lanes a b s mask long within h =
     IsMask-lanes is_loss (condition a b) b a s mask refl (omega (arith, length-condition a b long)) (omega arith) within
     (λ c below. ap is_loss (mark_at-condition a b c (sym long)) ∙ is_loss-mark_of (slice_index a c) (slice_index b c)) h

@@ -1,6 +1,6 @@
 //! The classes of one input's candidates: each distinct profile, in order of first candidate, and its members.
 
-ghost use Rattle.std.specs.Prelude.{◌≡◌, ◌<◌, ◌≤◌, List, ℕ, [], ◌∷◌, ◌++◌, length, map, position, IfOk, IfSome, OnOk};
+ghost use Rattle.std.specs.Prelude.{◌≡◌, ◌<◌, ◌≤◌, List, ℕ, [], ◌∷◌, ◌++◌, length, map, position, true, IfOk, IfSome, OnOk};
 ghost use Rattle.ot_base.specs.declared.limits.TheConstants.{CANDIDATE_LIMIT};
 ghost use Rattle.ot_theory.specs.Problems.{same_profile};
 ghost use Rattle.violation_profiles.specs.Classes.{AreClassesOf};
@@ -77,5 +77,28 @@ pub(crate) fn class_of(classes: &[Class], profile: &[u32]) -> Option<usize>
 {
     classes
         .iter()
-        .position(|class| profile == class.profile.as_slice())
+        .position(|class| is_profile_of(class, profile))
+}
+
+/// Whether this is the profile of a class.
+fn is_profile_of(class: &Class, profile: &[u32]) -> bool
+    ensures { result ≡ same_profile profile.now class.now.profile }
+{
+    let other = class.profile.as_slice();
+    begins_alike(profile, other) && profile == other
+}
+
+/// How many violations are compared one by one, before all.
+const FEW: usize = 4;
+
+/// Whether the first violations of two profiles are equal. Most profiles that differ do so there.
+fn begins_alike(profile: &[u32], other: &[u32]) -> bool
+    ensures { profile.now ≡ other.now → result ≡ true }
+{
+    for k in 0..profile.len().min(other.len()).min(FEW) {
+        if profile[k] != other[k] {
+            return false;
+        }
+    }
+    true
 }

@@ -19,7 +19,7 @@ use std::marker::Model;
 use std::simd::prelude::*;
 
 /// How many violations are compared at a time.
-const LANES: usize = 16;
+const LANES: usize = 4;
 
 /// A problem of optimality: a number of constraints, and inputs whose candidates fall into classes of equal profiles, which
 /// are numbered in order of their first candidate. A contract sees it as the problem of the theory. It has at most 64
@@ -158,7 +158,7 @@ fn fewer_in_lanes(fewer: &[u32], more: &[u32], start: usize) -> Mask
     requires small { start + LANES ≤ LIMIT }
     ensures { result ≡ mask_l (zip2 nat_lt (chunk start LANES fewer.now) (chunk start LANES more.now)) * 2 ^ start }
 {
-    let fewer = u32x16::from_slice(&fewer[start..]);
-    let more = u32x16::from_slice(&more[start..]);
+    let fewer = u32x4::from_slice(&fewer[start..]);
+    let more = u32x4::from_slice(&more[start..]);
     fewer.simd_lt(more).to_bitmask() << start
 }

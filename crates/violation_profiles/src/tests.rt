@@ -1,52 +1,14 @@
 ghost use Rattle.std.specs.Prelude.{◌≡◌, ◌<◌, length, IfOk};
-ghost use Rattle.ot_base.specs.Acceptable.{IsRow, AreRows, IsAcceptable};
+ghost use Rattle.ot_base.specs.Acceptable.{AreRows, IsAcceptable};
 
 use crate::Problem;
 use erc_vectors::{ConId, List, NoMemory};
-use ot_base::{CandidateRow, ClassId, InId, InputRows, Label, Tableau};
+use ot_base::{ClassId, InId, InputRows, Tableau, input_of, tableau_of};
 use std::alloc::Global;
 use std::test::Fail;
 
 /// A candidate's count and its violations of four constraints.
 type Row = (u64, [u8; 4]);
-
-fn row(alloc: Global, count: u64, marks: &[u8; 4]) -> Result<CandidateRow, NoMemory>
-    ensures { IfOk result (λ row. IsRow 4 row) }
-{
-    let mut violations = List::new(alloc);
-    for violation in marks {
-        violations.push(u32::from(*violation))?;
-    }
-    Ok(CandidateRow {
-        text: Label::of(alloc, b"")?,
-        count,
-        violations,
-        line: 3,
-    })
-}
-
-fn input(alloc: Global, rows: &[Row; 3]) -> Result<InputRows, NoMemory>
-    ensures { IfOk result (λ input. AreRows 4 input) }
-{
-    let mut candidates = List::new(alloc);
-    for (count, marks) in rows {
-        candidates.push(row(alloc, *count, marks)?)?;
-    }
-    Ok(InputRows {
-        text: Label::of(alloc, b"")?,
-        candidates,
-    })
-}
-
-fn names(alloc: Global) -> Result<List<Label>, NoMemory>
-    ensures { IfOk result (λ names. length names ≡ 4) }
-{
-    let mut names = List::new(alloc);
-    for _ in 0..4_usize {
-        names.push(Label::of(alloc, b"")?)?;
-    }
-    Ok(names)
-}
 
 fn tableau(alloc: Global, rows: &[[Row; 3]; 2]) -> Result<Tableau, NoMemory>
     ensures { IfOk result IsAcceptable }
@@ -54,11 +16,15 @@ fn tableau(alloc: Global, rows: &[[Row; 3]; 2]) -> Result<Tableau, NoMemory>
     let mut inputs = List::new(alloc);
     inputs.push(input(alloc, &rows[0])?)?;
     inputs.push(input(alloc, &rows[1])?)?;
-    Ok(Tableau {
-        names: names(alloc)?,
-        abbrevs: names(alloc)?,
-        inputs,
-    })
+    let names = ["A", "B", "C", "D"];
+    tableau_of(alloc, &names, &names, inputs)
+}
+
+fn input(alloc: Global, rows: &[Row; 3]) -> Result<InputRows, NoMemory>
+    ensures rows { IfOk result (λ input. AreRows 4 input) }
+    ensures candidates { IfOk result (λ input. length input.candidates ≡ 3) }
+{
+    input_of(alloc, "", &rows.map(|(count, marks)| ("", count, marks)))
 }
 
 /// The marks of the conditions of each class of an input over each other one.

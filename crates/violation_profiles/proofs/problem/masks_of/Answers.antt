@@ -6,8 +6,8 @@ use Rattle.violation_profiles.proofs.problem.masks_of.Goals as goal
 
 pub loop-k-preserved : goal.loop-k-preserved
 loop-k-preserved c =
-    let start = 16 * c.loop-k.k in
-    let next : 16 * (c.loop-k.k + 1) ≡ start + 16 = omega arith in
+    let start = 4 * c.loop-k.k in
+    let next : 4 * (c.loop-k.k + 1) ≡ start + 4 = omega arith in
     record {
       wins = rw (next, c.fewer_in_lanes-wins.ensures) (wins-lanes c.args.winner.now c.args.loser.now start _ c.requires.same (omega arith) c.loop-k.invariant.wins);
       losses = rw (next, c.fewer_in_lanes-losses.ensures) (losses-lanes c.args.winner.now c.args.loser.now start _ c.requires.same (omega arith) c.loop-k.invariant.losses);
@@ -16,7 +16,7 @@ loop-k-preserved c =
 pub loop-c-init : goal.loop-c-init
 loop-c-init c =
     let n = length c.args.winner.now in
-    let same : n - n % 16 ≡ 16 * c.loop-k.k = omega arith in
+    let same : n - n % 4 ≡ 4 * c.loop-k.k = omega arith in
     record { wins = rw same c.loop-k.invariant.wins; losses = rw same c.loop-k.invariant.losses }
 
 pub loop-c-preserved : goal.loop-c-preserved

@@ -6,8 +6,8 @@ use Rattle.violation_profiles.proofs.problem.masks_of.Given as goal
 
 abbrev pub invariant-loop-k : goal.invariant-loop-k
 invariant-loop-k l = record {
-  wins : IsMask is_win (take (16 * l.k) (condition l.winner l.loser)) l.wins;
-  losses : IsMask is_loss (take (16 * l.k) (condition l.winner l.loser)) l.losses;
+  wins : IsMask is_win (take (4 * l.k) (condition l.winner l.loser)) l.wins;
+  losses : IsMask is_loss (take (4 * l.k) (condition l.winner l.loser)) l.losses;
 }
 
 abbrev pub invariant-loop-c : goal.invariant-loop-c
