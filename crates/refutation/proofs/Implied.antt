@@ -41,9 +41,6 @@ stronger-masks marks weaker w losses wins l a b c d more h = record { wins = wit
 pub lossless-mask : (set : List (List Mark)) (marks : List Mark) (l : ℕ) → IsMask is_loss marks l → l ≡ 0 → IsImplied set marks
 lossless-mask set marks l m none = IsImplied-lossless set marks (λ c. bit_false (bit_at l c) (is_loss (mark_at marks c)) (ap (λ (n : ℕ). bit_at n c) none ∙ bit_at-zero c) (m c))
 
-pub Begins-same : {X : Type 0} (front list : List X) → list ≡ front → Begins front list
-Begins-same front list e = record { rest = []; whole = e ∙ sym (append-nil front) }
-
 pub Begins-push : {X : Type 0} (front list more : List X) (x : X) → Begins front list → more ≡ list ++ x ∷ [] → Begins front more
 Begins-push front list more x b e = record { rest = b.rest ++ x ∷ []; whole = e ∙ ap (λ (l : List _). l ++ x ∷ []) b.whole ∙ append_assoc front b.rest (x ∷ []) }
 

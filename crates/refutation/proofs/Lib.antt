@@ -4,3 +4,4 @@ pub mod Winning
 pub mod TermsOfPrefixes
 pub mod Implied
 pub mod Opened
+pub mod Asking

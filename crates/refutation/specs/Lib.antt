@@ -4,3 +4,5 @@ pub mod Terms
 pub mod Typologies
 pub mod Winners
 pub mod Asked
+pub mod Findings
+pub mod Places

@@ -4,10 +4,12 @@ ghost use Rattle.std.specs.Prelude.{◌≡◌, IfOk, IsTrue};
 ghost use Rattle.std.specs.List.{list_all};
 ghost use Rattle.ot_theory.specs.Languages.{refuted, terms_of};
 ghost use Rattle.ot_theory.specs.Refutations.{EachIsNeeded, certificate_of, is_contradiction, one_winner_each, refutes};
+ghost use Rattle.refutation.specs.Asked.{AreAsked};
 ghost use Rattle.refutation.specs.Prefixes.{class_numbers, is_made};
 ghost use Rattle.refutation.specs.Terms.{are_terms, term_of, terms_in};
 ghost use Rattle.violation_profiles.specs.WellFormed.{IsPrefix};
 
+use crate::asked::Asked;
 use crate::certificate::core_of;
 use crate::contradiction::Contradiction;
 use crate::term::Term;
@@ -31,6 +33,20 @@ pub fn terms_of(alloc: Global, p: &Problem, prefix: &[ClassId]) -> Result<List<T
         add_terms(&mut terms, p, InId(i as u32), *winner)?;
     }
     Ok(terms)
+}
+
+/// What the classes of a prefix of the problem ask of a ranking: its terms and their conditions, without those that earlier ones
+/// imply.
+pub fn asked_of(alloc: Global, p: &Problem, prefix: &[ClassId]) -> Result<Asked, NoMemory>
+    requires { IsPrefix p.now (class_numbers prefix.now) }
+    ensures { IfOk result (λ asked. AreAsked p.now (terms_of p.now (class_numbers prefix.now)) asked.terms.items asked.conditions.items) }
+{
+    prove!(prefix.len() <= p.inputs());
+    let mut asked = Asked::nothing(alloc);
+    for (i, winner) in prefix.iter().enumerate() {
+        asked.add(p, InId(i as u32), *winner, 0)?;
+    }
+    Ok(asked)
 }
 
 /// Whether a prefix makes each of the winner choices of a contradiction: of each term, it is longer than the number of the

@@ -1,16 +1,16 @@
 ghost use Rattle.std.specs.Prelude.{◌≡◌, length, IfOk, IsTrue, true};
-ghost use Rattle.ot_base.specs.Acceptable.{IsRow, AreRows, IsAcceptable};
+ghost use Rattle.ot_base.specs.Acceptable.{AreRows};
 ghost use Rattle.ot_theory.specs.Languages.{refuted};
 ghost use Rattle.refutation.specs.Prefixes.{class_numbers};
 ghost use Rattle.violation_profiles.specs.WellFormed.{IsPrefix};
 
 use crate::{
-    Contradiction, Prefix, Term, condition_of, conditions_of, core_of, deletion_core, is_genuine,
-    is_prefix, refutes, terms_of, winner_terms,
+    Contradiction, Finding, Prefix, Term, condition_of, conditions_of, core_of, deletion_core,
+    is_genuine, is_prefix, judge_terms, refutes, terms_of, winner_terms,
 };
 use demotion::is_hopeless;
 use erc_vectors::{ConId, List, NoMemory};
-use ot_base::{CandidateRow, ClassId, InId, InputRows, Label, Tableau};
+use ot_base::{ClassId, InId, InputRows, input_of, tableau_of};
 use std::alloc::Global;
 use std::process::Abort;
 use std::test::Fail;
@@ -45,54 +45,19 @@ const COMPROMISE: Rows = [
     [(1, [0, 0, 0]), (1, [0, 0, 0]), (1, [0, 0, 0])],
 ];
 
-fn row(alloc: Global, count: u64, marks: &[u8; 3]) -> Result<CandidateRow, NoMemory>
-    ensures { IfOk result (λ row. IsRow 3 row) }
-{
-    let mut violations = List::new(alloc);
-    for violation in marks {
-        violations.push(u32::from(*violation))?;
-    }
-    Ok(CandidateRow {
-        text: Label::of(alloc, b"")?,
-        count,
-        violations,
-        line: 3,
-    })
-}
-
 fn input(alloc: Global, rows: &[Row; 3]) -> Result<InputRows, NoMemory>
-    ensures { IfOk result (λ input. AreRows 3 input) }
+    ensures rows { IfOk result (λ input. AreRows 3 input) }
+    ensures candidates { IfOk result (λ input. length input.candidates ≡ 3) }
 {
-    let mut candidates = List::new(alloc);
-    for (count, marks) in rows {
-        candidates.push(row(alloc, *count, marks)?)?;
-    }
-    Ok(InputRows {
-        text: Label::of(alloc, b"")?,
-        candidates,
-    })
-}
-
-fn names(alloc: Global) -> Result<List<Label>, NoMemory>
-    ensures { IfOk result (λ names. length names ≡ 3) }
-{
-    let mut names = List::new(alloc);
-    for _ in 0..3_usize {
-        names.push(Label::of(alloc, b"")?)?;
-    }
-    Ok(names)
+    input_of(alloc, "", &rows.map(|(count, marks)| ("", count, marks)))
 }
 
 fn problem(alloc: Global, rows: &Rows) -> Result<Problem, NoMemory> {
     let mut inputs = List::new(alloc);
     inputs.push(input(alloc, &rows[0])?)?;
     inputs.push(input(alloc, &rows[1])?)?;
-    let tableau = Tableau {
-        names: names(alloc)?,
-        abbrevs: names(alloc)?,
-        inputs,
-    };
-    Problem::of(alloc, &tableau)
+    let names = ["A", "B", "C"];
+    Problem::of(alloc, &tableau_of(alloc, &names, &names, inputs)?)
 }
 
 /// The terms with their numbers counted from 1.
@@ -148,6 +113,39 @@ fn certificate(rt: &impl Abort, alloc: Global, rows: &Rows) -> Result<String, Fa
     assert!(rt; is_genuine(&problem, &core));
     let copy = core.copy()?;
     shown(alloc, copy.terms.as_slice())
+}
+
+/// What the terms of the winners of these rows come to: the stratum of each constraint, or the certificate.
+fn judged(alloc: Global, rows: &Rows) -> Result<String, Fail> {
+    let problem = problem(alloc, rows)?;
+    let terms = winner_terms(alloc, &problem)?;
+    let conditions = conditions_of(alloc, &problem, terms.as_slice())?;
+    match judge_terms(alloc, &problem, terms.as_slice(), conditions)? {
+        Finding::Holds(strata) => {
+            let mut text = String::new(alloc);
+            for c in 0..strata.width() {
+                let level = strata.level(ConId(c as u16));
+                write!(text, "{level} ")?;
+            }
+            Ok(text)
+        }
+        Finding::Refuted(core) => shown(alloc, core.terms.as_slice()),
+    }
+}
+
+#[test]
+fn winners_are_judged(rt: HostRuntime) -> Result<(), Fail> {
+    let text = judged(rt.alloc(), &stops([0, 0, 0], [0, 0, 0]))?;
+    assert_eq!(rt; text.as_str(), "1 1 1 ", "no winner");
+    let text = judged(rt.alloc(), &stops([1, 0, 0], [1, 0, 0]))?;
+    assert_eq!(rt; text.as_str(), "2 1 1 ", "repaired alike");
+    let text = judged(rt.alloc(), &PAIRS)?;
+    assert_eq!(rt; text.as_str(), "1 2 3 ", "three strata");
+    let text = judged(rt.alloc(), &stops([1, 0, 0], [0, 1, 0]))?;
+    assert_eq!(rt; text.as_str(), "1:1>2 2:2>1 ", "repaired otherwise");
+    let text = judged(rt.alloc(), &COMPROMISE)?;
+    assert_eq!(rt; text.as_str(), "1:3>1 1:3>2 ", "a compromise");
+    Ok(())
 }
 
 #[test]

@@ -71,26 +71,6 @@ single_quotes-same (c ∷ d ∷ rest) none = elim (pair_tells c d) [
   | inr other ↦ rw other.0 (ap (λ text. c ∷ text) (single_quotes-same (d ∷ rest) (rw other.0 at none)))
 ]
 
-length-single_quotes-le : (text : List ℕ) → length (single_quotes text) ≤ length text
-length-single_quotes-le [] = omega arith
-length-single_quotes-le (c ∷ []) = omega arith
-length-single_quotes-le (c ∷ d ∷ rest) = elim (pair_tells c d) [
-  | inl pair ↦ rw pair.0 (omega (arith, length-single_quotes-le rest))
-  | inr other ↦ rw other.0 (omega (arith, length-single_quotes-le (d ∷ rest)))
-]
-
-length-single_quotes-lt : (text : List ℕ) → has_pair text ≡ true → length (single_quotes text) < length text
-length-single_quotes-lt [] pair = absurd (cc pair)
-length-single_quotes-lt (c ∷ []) pair = absurd (cc pair)
-length-single_quotes-lt (c ∷ d ∷ rest) pair = elim (pair_tells c d) [
-  | inl first ↦ rw first.0 (omega (arith, length-single_quotes-le rest))
-  | inr other ↦ rw other.0 (omega (arith, length-single_quotes-lt (d ∷ rest) (rw other.0 at pair)))
-]
-
--- a text with a pair becomes another text
-pub single_quotes-other : (text : List ℕ) → has_pair text ≡ true → single_quotes text ≢ text
-single_quotes-other text pair = λ same. omega (arith, length-single_quotes-lt text pair, ap length same)
-
 -- spaces alone come from spaces alone
 pub all_spaces-single_quotes : (text : List ℕ) → list_all is_space (single_quotes text) ≡ list_all is_space text
 all_spaces-single_quotes [] = refl

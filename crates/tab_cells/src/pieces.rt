@@ -108,11 +108,21 @@ impl<'a> Iterator for Cells<'a> {
     }
 }
 
-/// The first cell, and what stands after the tab that ends it if there is one.
+/// The first cell, and what stands after the tab that ends it if there is one. Most cells have one byte.
 fn cut_cell(line: &[u8]) -> (&[u8], Option<&[u8]>)
     ensures { cells_of line.now ≡ result.0.now ∷ cells_left result.1 }
 {
-    // Most cells have one or two bytes, so a plain walk ends before a search of blocks has begun.
+    match line {
+        [first, b'\t', rest @ ..] if *first != b'\t' => (&line[..1], Some(rest)),
+        _ => cut_at_tab(line),
+    }
+}
+
+/// The same for a cell of any length. Most are short, so a plain walk ends before a search of blocks has begun.
+#[inline(never)]
+fn cut_at_tab(line: &[u8]) -> (&[u8], Option<&[u8]>)
+    ensures { cells_of line.now ≡ result.0.now ∷ cells_left result.1 }
+{
     match line.iter().position(|c| *c == b'\t') {
         Some(at) => (&line[..at], Some(&line[at + 1..])),
         None => (line, None),

@@ -201,6 +201,7 @@ pub(crate) fn is_blank(line: &[u8]) -> bool
 }
 
 /// The violations in the next n cells, or the fault of one that is none.
+#[inline(never)]
 fn violations_of(alloc: Global, n: usize, cells: &mut Cells<'_>) -> Result<List<u32>, LineError>
     ensures violations { IfOk result (λ violations. violations ≡ map value_of (map (cell (map text_of cells.old)) (range_with_len 0 n))) }
     ensures sound { OnOk result (list_all is_violation (map (cell (map text_of cells.old)) (range_with_len 0 n)) ≡ true) }

@@ -1,0 +1,13 @@
+-- Each class adds what it asks.
+use Rattle.std.proofs.Common.{arith, refl}
+use Rattle.refutation.specs.Asked.{AreAsked}
+use Rattle.refutation.specs.Prefixes.{class_numbers}
+use Rattle.refutation.proofs.Asking.{asked-more, asked-prefix}
+use Rattle.refutation.proofs.Implied.{asked-nothing}
+use Rattle.refutation.proofs.refuting.asked_of.Goals as goal
+
+pub loop-i-preserved : goal.loop-i-preserved
+loop-i-preserved c = asked-more c.args.p.now c.args.prefix.now c.loop-i.i _ c.add.new.self.terms.items c.add.new.self.conditions.items c.loop-i-test.true (c.in_ok-add.ensures.asked _ c.loop-i.invariant)
+
+pub returns : goal.returns
+returns c = asked-prefix c.args.p.now c.args.prefix.now c.loop-i.i c.loop-i.asked.terms.items c.loop-i.asked.conditions.items (omega (arith, c.loop-i-test.false)) c.loop-i.invariant
