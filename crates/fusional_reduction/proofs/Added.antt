@@ -1,17 +1,16 @@
 -- The fusion of a node, and its skeletal form, by masks.
-use Rattle.std.proofs.Common.{◌≡◌, ◌≢◌, ◌⊎◌, ℕ, zero, suc, ◌+◌, ◌-◌, ◌^◌, ◌<◌, ◌≤◌, min, max, List, [], ◌∷◌, ◌++◌, Bool, true, false, not, ◌&&◌, ◌||◌, ◌==◌, cond, length, take, get_or, arith, refl, sym, ap, subst, ◌∙◌, inl, inr}
-use Rattle.std.specs.Prelude.{bit_and, bit_or, filter, All}
+use Rattle.std.proofs.Common.{◌≡◌, ◌≢◌, ℕ, ◌-◌, ◌^◌, ◌<◌, ◌≤◌, min, List, [], ◌∷◌, ◌++◌, Bool, true, false, not, ◌&&◌, cond, length, arith, refl, sym, ap, subst, ◌∙◌, inl, inr}
+use Rattle.std.specs.Prelude.{bit_and, filter}
 use Rattle.std.specs.List.{list_all, list_any}
 use Rattle.std.specs.Int.{bit_at, bit_not, w64}
-use Rattle.std.proofs.lemmas.Bool.{cases_lt, cases_Bool, and_from, and_parts, ne_eqb, eq-eqb, eqb-true, false_from_ne_true, true_from_ne_false, not-true}
+use Rattle.std.proofs.lemmas.Bool.{cases_lt, and_parts, ne_eqb, eqb-true, false_from_ne_true, not-true}
 use Rattle.std.proofs.lemmas.List.{append-nil}
 use Rattle.std.proofs.lemmas.List.FromFn.{fill_by_all}
 use Rattle.std.proofs.lemmas.Nat.{and_le_l, pow_below}
-use Rattle.std.proofs.lemmas.Nat.Bits.{bit_at-lt, bit_at_and, bit_at_not, bit_at-zero, bit_at_above, same_from_bits}
+use Rattle.std.proofs.lemmas.Nat.Bits.{bit_at_and, bit_at_not, bit_at-zero, same_from_bits}
 use Rattle.ot_theory.specs.declared.Mark.{Mark}
 use Rattle.ot_theory.specs.declared.Mark.TheVariants.{W, L, E}
-use Rattle.ot_theory.specs.Rankings.{numbers_below}
-use Rattle.ot_theory.specs.Conditions.{is_win, is_loss, is_even, mark_at, fusion}
+use Rattle.ot_theory.specs.Conditions.{is_win, is_loss, mark_at, fusion}
 use Rattle.ot_theory.proofs.Strata.{any-range, range-any}
 use Rattle.ot_theory.proofs.Sets.{IsPart, both_ways}
 use Rattle.erc_vectors.specs.Masks.{IsMask, mask_of, IsMask-mask_of}
@@ -21,7 +20,7 @@ use Rattle.fusional_reduction.specs.Chosen.{lacks_in}
 use Rattle.fusional_reduction.specs.Nodes.{is_even_at, stands_below, residue, is_kept, skeletal_mark, skeletal_form}
 use Rattle.fusional_reduction.specs.declared.member.Member.{Member}
 use Rattle.fusional_reduction.specs.Visits.{IsGiven, has_width, member_of}
-use Rattle.fusional_reduction.proofs.Fusions.{win_at, loss_at, fusion-win, fusion-loss, loss-fusion, it-passes, all-none, neither, win-not-loss, even-not-win, not_both}
+use Rattle.fusional_reduction.proofs.Fusions.{loss_at, fusion-win, fusion-loss, loss-fusion, it-passes, all-none, neither, even-not-win}
 use Rattle.fusional_reduction.proofs.NodesWithin.{below-at}
 use Rattle.fusional_reduction.proofs.KeptNodes.{is_own_loss, has_own_loss, kept-own, length-fusion}
 use Rattle.fusional_reduction.proofs.Visited.{filter-equal}

@@ -1,19 +1,18 @@
 -- Conditions that are chosen by masks.
-use Rattle.std.proofs.Common.{◌≡◌, ◌≢◌, ◌⊎◌, ℕ, zero, suc, ◌+◌, ◌-◌, ◌*◌, ◌%◌, ◌^◌, ◌<◌, ◌≤◌, min, max, List, [], ◌∷◌, ◌++◌, Bool, true, false, not, ◌&&◌, ◌||◌, ◌==◌, cond, length, take, get_or, arith, refl, sym, ap, subst, ◌∙◌, inl, inr}
+use Rattle.std.proofs.Common.{◌≡◌, ◌≢◌, ℕ, ◌+◌, ◌-◌, ◌*◌, ◌%◌, ◌^◌, ◌<◌, min, max, List, [], ◌∷◌, ◌++◌, Bool, true, false, not, ◌&&◌, ◌||◌, ◌==◌, cond, length, take, get_or, arith, refl, sym, ap, subst, ◌∙◌, inl, inr}
 use Rattle.std.specs.Prelude.{bit_and, bit_or, filter, All}
 use Rattle.std.specs.List.{list_all, list_any}
 use Rattle.std.specs.Int.{bit_at, bit_not, w64, trailing_zeros}
-use Rattle.std.proofs.lemmas.Bool.{cases_lt, cases_Bool, and_from, and_parts, ne_eqb, eq-eqb, eqb-true, false_from_ne_true, true_from_ne_false, or_left, or_right, or_cases, not-true}
+use Rattle.std.proofs.lemmas.Bool.{cases_lt, cases_Bool, ne_eqb, eq-eqb, false_from_ne_true, or_left, or_right, or_cases, not-true}
 use Rattle.std.proofs.lemmas.Bool.Decides.{eqb_tells}
 use Rattle.std.proofs.lemmas.List.Elements.{filter_more}
 use Rattle.std.proofs.lemmas.List.{append-nil, take_more}
 use Rattle.std.proofs.lemmas.List.Folds.{list_any-append, list_all-append}
 use Rattle.std.proofs.lemmas.Nat.{and_le_l, and_le_r, shl_whole, pow_below}
 use Rattle.std.proofs.lemmas.List.Sums.{AllPass-from_list_all}
-use Rattle.std.proofs.lemmas.Nat.Bits.{bit_at-lt, bit_at_and, bit_at_or, bit_at_not, bit_at-zero, bit_at_above, bit_at-trailing_zeros, bit_at-pow_same, bit_at-pow_other, bit_at_ones}
+use Rattle.std.proofs.lemmas.Nat.Bits.{bit_at-lt, bit_at_and, bit_at_or, bit_at_not, bit_at-zero, bit_at_above, bit_at-trailing_zeros, bit_at-pow_other}
 use Rattle.ot_theory.specs.declared.Mark.{Mark}
-use Rattle.ot_theory.specs.declared.Mark.TheVariants.{W, L, E}
-use Rattle.ot_theory.specs.Conditions.{is_win, is_loss, mark_at}
+use Rattle.ot_theory.specs.Conditions.{is_win, mark_at}
 use Rattle.erc_vectors.specs.Masks.{IsMask, mask_of, same_mask, IsMask-mask_of}
 use Rattle.erc_fusion.specs.Joined.{IsJoined}
 use Rattle.fusional_reduction.specs.Chosen.{wins_in, lacks_in, IsShared}
@@ -54,9 +53,6 @@ min_bits true true = refl
 min_bits true false = refl
 min_bits false true = refl
 min_bits false false = refl
-
-pub IsJoined-none : (test : Mark → Bool) → IsJoined test [] 0
-IsJoined-none test c = bit_at-zero c
 
 pub IsJoined-push : (test : Mark → Bool) (set : List (List Mark)) (marks : List Mark) (mask more : ℕ) → IsMask test marks more → IsJoined test set mask → IsJoined test (set ++ marks ∷ []) (bit_or mask more)
 IsJoined-push test set marks mask more m h c =

@@ -1,8 +1,8 @@
 -- What the fusion of conditions has at a constraint, and what holds of a part of them.
-use Rattle.std.proofs.Common.{◌≡◌, ℕ, zero, suc, ◌+◌, ◌<◌, ◌≤◌, List, [], ◌∷◌, ◌++◌, Bool, true, false, not, ◌&&◌, ◌||◌, ◌==◌, arith, refl, sym, ◌∙◌, ap, cond, inl, inr, length, map}
+use Rattle.std.proofs.Common.{◌≡◌, ℕ, ◌<◌, ◌≤◌, List, [], ◌∷◌, Bool, true, false, not, ◌&&◌, ◌||◌, arith, refl, sym, ◌∙◌, ap, cond, inl, inr}
 use Rattle.std.specs.Prelude.{filter}
 use Rattle.std.specs.List.{list_all, list_any}
-use Rattle.std.proofs.lemmas.Bool.{and_parts, and_from, or_cases, or_left, or_right, or_parts, or_from, cases_Bool, cases_lt, not-true, false_from_ne_true}
+use Rattle.std.proofs.lemmas.Bool.{and_parts, and_from, or_cases, or_left, or_parts, or_from, cases_Bool, cases_lt, not-true}
 use Rattle.std.proofs.lemmas.List.{get_or_past}
 use Rattle.std.proofs.lemmas.List.FromFn.{get_or-map-range_with_len, length-map-range_with_len}
 use Rattle.ot_theory.specs.declared.Mark.{Mark}
@@ -10,8 +10,8 @@ use Rattle.ot_theory.specs.declared.Mark.TheVariants.{W, L, E}
 use Rattle.ot_theory.specs.Conditions.{mark_at, is_win, is_loss, is_even, fusion}
 use Rattle.ot_theory.proofs.Enumeration.{any-map}
 use Rattle.ot_theory.proofs.Hopeless.{fused_at}
-use Rattle.ot_theory.proofs.Sets.{IsPart, IsPart-filter}
-use Rattle.fusional_reduction.specs.Nodes.{is_even_at, even_part}
+use Rattle.ot_theory.proofs.Sets.{IsPart}
+use Rattle.fusional_reduction.specs.Nodes.{is_even_at}
 
 abbrev pub win_at : ℕ → List Mark → Bool
 win_at c marks = is_win (mark_at marks c)

@@ -1,30 +1,29 @@
 -- No member of a basis is entailed by its others.
-use Rattle.std.proofs.Common.{◌≡◌, ◌≢◌, ◌⊎◌, ℕ, zero, suc, ◌+◌, ◌<◌, ◌≤◌, List, [], ◌∷◌, ◌++◌, Bool, true, false, not, ◌&&◌, ◌||◌, ◌==◌, arith, refl, sym, ◌∙◌, ap, subst, cond, inl, inr, length, map, get_or, length-append, ◌-◌}
-use Rattle.std.specs.Prelude.{filter, slice_index_or, AllPairs}
+use Rattle.std.proofs.Common.{◌≡◌, ◌⊎◌, ℕ, zero, suc, ◌+◌, ◌<◌, ◌≤◌, List, [], ◌∷◌, ◌++◌, Bool, true, false, not, ◌||◌, arith, refl, sym, ◌∙◌, ap, subst, cond, inl, inr, length, map, get_or, length-append, ◌-◌}
+use Rattle.std.specs.Prelude.{filter, slice_index_or}
 use Rattle.std.specs.List.{list_all, list_any}
-use Rattle.std.proofs.lemmas.Bool.{and_parts, and_from, or_cases, or_left, or_right, or_parts, or_from, cases_Bool, cases_lt, false_from_ne_true, true_from_ne_false, not-true}
+use Rattle.std.proofs.lemmas.Bool.{and_parts, and_from, or_cases, or_left, or_right, or_parts, or_from, cases_Bool, cases_lt, false_from_ne_true, true_from_ne_false}
 use Rattle.std.proofs.lemmas.List.Folds.{list_all-append, list_any-append}
 use Rattle.std.proofs.lemmas.List.{get_or_append_left, get_or-append-add}
 use Rattle.std.proofs.Math.Seq.{get_or-append_seam}
 use Rattle.ot_theory.specs.declared.Mark.{Mark}
-use Rattle.ot_theory.specs.declared.Mark.TheVariants.{W, L, E}
-use Rattle.ot_theory.specs.Rankings.{IsRanking, rankings, numbers_below}
+use Rattle.ot_theory.specs.Rankings.{rankings}
 use Rattle.ot_theory.specs.Conditions.{keeps, mark_at, is_win, is_loss, is_even, fusion, is_contradictory, exchanged}
 use Rattle.ot_theory.specs.Refutations.{no_ranking_keeps}
 use Rattle.ot_theory.specs.Entailment.{entails}
 use Rattle.ot_theory.proofs.Enumeration.{any-ranking, ranking-found}
 use Rattle.ot_theory.proofs.Hopeless.{hopeless-fused}
-use Rattle.ot_theory.proofs.Sets.{IsPart, IsPart-filter}
+use Rattle.ot_theory.proofs.Sets.{IsPart}
 use Rattle.ot_theory.proofs.ContradictoryParts.{contradictory-part}
-use Rattle.ot_theory.proofs.Entailing.{entails-from, entails-by_negation}
-use Rattle.fusional_reduction.specs.Visits.{IsGiven, has_width}
-use Rattle.fusional_reduction.specs.Nodes.{IsNode, is_even_at, residue, is_kept}
-use Rattle.fusional_reduction.specs.Laws.{AreIndependent, AreDistinct}
+use Rattle.ot_theory.proofs.Entailing.{entails-by_negation}
+use Rattle.fusional_reduction.specs.Visits.{IsGiven}
+use Rattle.fusional_reduction.specs.Nodes.{IsNode, residue, is_kept}
+use Rattle.fusional_reduction.specs.Laws.{AreIndependent}
 use Rattle.fusional_reduction.proofs.Fusions.{win_at, loss_at, fusion-win, win-fusion, fusion-loss, loss-fusion, even-fusion, all-even, none-part, any-part, part-trans, even-not-win, even-not-loss, loss-not-win, not_both}
 use Rattle.fusional_reduction.proofs.NodesWithin.{part-within, node-part, in-residue}
-use Rattle.fusional_reduction.proofs.KeptNodes.{OwnLoss, own-loss, kept-own, given-part, contradictory-no_win, win-exchanged, loss-exchanged, mark-some}
+use Rattle.fusional_reduction.proofs.KeptNodes.{OwnLoss, own-loss, kept-own, given-part, contradictory-no_win, win-exchanged, loss-exchanged}
 use Rattle.fusional_reduction.proofs.NodesWithin.{node-some}
-use Rattle.fusional_reduction.proofs.SameRankings.{IsForm, FormOf, AreForms, keeps-form}
+use Rattle.fusional_reduction.proofs.SameRankings.{IsForm, AreForms, keeps-form}
 
 -- ---- forms of other nodes, and the conditions of those nodes together
 pub record FormOfOther (n : ℕ) (set node : List (List Mark)) (marks : List Mark) : Type 0 where
@@ -164,10 +163,6 @@ not-entailed n set node others marks g width is_node kept form forms = false_fro
         not_both (hopeless-fused n (filter test others) bad) (possible-other n set (filter test others) u.kept g.possible)
 
 -- ---- a list of forms
--- what stands at a place of a list without one member
-abbrev pub FormsBut : ℕ → List (List Mark) → List (List Mark) → List (List Mark) → List Mark → List (List Mark) → Type 0
-FormsBut n set node before marks behind = FormsOfOthers n set node (before ++ behind)
-
 others-of : (n : ℕ) (set before : List (List Mark)) (marks : List Mark) (behind : List (List Mark)) → (forms : AreForms n set (before ++ marks ∷ behind)) → (here : length before < length (before ++ marks ∷ behind)) → FormsOfOthers n set (forms.each (length before) here).node (before ++ behind)
 others-of n set before marks behind forms here k small = elim (cases_lt k (length before)) [
   | inl first ↦

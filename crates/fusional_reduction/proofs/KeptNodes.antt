@@ -1,27 +1,26 @@
 -- The fusion of a node is kept exactly where it has an L that the fusion of the residue lacks.
-use Rattle.std.proofs.Common.{◌≡◌, ◌⊎◌, ℕ, zero, suc, ◌<◌, ◌≤◌, List, [], ◌∷◌, Bool, true, false, not, ◌&&◌, ◌||◌, ◌==◌, arith, refl, sym, ◌∙◌, ap, cond, inl, inr, length, map}
+use Rattle.std.proofs.Common.{◌≡◌, ℕ, zero, suc, ◌<◌, List, [], ◌∷◌, Bool, true, false, not, ◌&&◌, ◌==◌, arith, refl, sym, ◌∙◌, ap, cond, inl, inr, length, map}
 use Rattle.std.specs.Prelude.{filter}
 use Rattle.std.specs.List.{list_all, list_any}
-use Rattle.std.proofs.lemmas.Bool.{and_parts, and_from, and_cases, or_cases, or_left, or_right, cases_Bool, cases_lt, false_from_ne_true, true_from_ne_false, not-true, eq-eqb, eqb-true, ne_eqb}
+use Rattle.std.proofs.lemmas.Bool.{and_parts, and_from, or_cases, or_left, or_right, cases_Bool, false_from_ne_true, true_from_ne_false, not-true, eqb-true, ne_eqb}
 use Rattle.std.proofs.lemmas.List.FromFn.{length-map-range_with_len}
 use Rattle.ot_theory.specs.declared.Mark.{Mark}
 use Rattle.ot_theory.specs.declared.Mark.TheVariants.{W, L, E}
-use Rattle.ot_theory.specs.Rankings.{IsRanking, numbers_below}
-use Rattle.ot_theory.specs.Conditions.{keeps, mark_at, is_win, is_loss, is_even, fusion, is_contradictory, exchanged}
+use Rattle.ot_theory.specs.Rankings.{numbers_below}
+use Rattle.ot_theory.specs.Conditions.{keeps, mark_at, is_win, is_loss, is_even, fusion, is_contradictory, exchanged, has_both}
 use Rattle.ot_theory.specs.Refutations.{no_ranking_keeps}
 use Rattle.ot_theory.specs.Entailment.{entails}
 use Rattle.ot_theory.specs.Reductions.{IsStronger}
-use Rattle.ot_theory.proofs.Enumeration.{any-map}
 use Rattle.ot_theory.proofs.Strata.{any-range, range-any}
 use Rattle.ot_theory.proofs.Hopeless.{fused_at, hopeless-fused}
 use Rattle.ot_theory.proofs.Redundant.{IsImplied-stronger}
-use Rattle.ot_theory.proofs.Sets.{IsPart, IsPart-filter, no_ranking_keeps-more}
+use Rattle.ot_theory.proofs.Sets.{IsPart, no_ranking_keeps-more}
 use Rattle.ot_theory.proofs.ContradictoryParts.{contradictory-part, contradictory-some}
 use Rattle.ot_theory.proofs.Entailing.{entails-from, entails-by_negation, mark_at-exchanged}
 use Rattle.fusional_reduction.specs.Visits.{has_width, IsGiven}
-use Rattle.fusional_reduction.specs.Nodes.{IsNode, has_both, is_even_at, even_part, stands_below, residue, is_kept}
-use Rattle.fusional_reduction.proofs.Fusions.{win_at, loss_at, fusion-win, win-fusion, fusion-loss, loss-fusion, fusion-even, even-fusion, EvenAt, even-all, all-even, none-part, any-part, part-trans, standing, it-passes, it-any, neither, win-left, even-not-win, even-not-loss, win-not-loss, loss-not-win, not_both}
-use Rattle.fusional_reduction.proofs.NodesWithin.{node-part, node-some, residue-part}
+use Rattle.fusional_reduction.specs.Nodes.{residue, is_kept}
+use Rattle.fusional_reduction.proofs.Fusions.{win_at, loss_at, fusion-win, win-fusion, fusion-loss, loss-fusion, fusion-even, any-part, win-left, even-not-loss, win-not-loss, loss-not-win, not_both}
+use Rattle.fusional_reduction.proofs.NodesWithin.{residue-part}
 
 pub given-part : (n : ℕ) (set part : List (List Mark)) → IsGiven n set → IsPart part set → IsGiven n part
 given-part n set part g within = record {
@@ -134,9 +133,6 @@ loss-exchanged marks c = ap is_loss (mark_at-exchanged marks c) ∙ is_loss-exch
 -- of two conditions none, either or both
 abbrev pub pair_of : Bool → Bool → List Mark → List Mark → List (List Mark)
 pair_of s t a b = cond s (a ∷ cond t (b ∷ []) []) (cond t (b ∷ []) [])
-
-filter-pair : (test : List Mark → Bool) (a b : List Mark) → filter test (a ∷ b ∷ []) ≡ pair_of (test a) (test b) a b
-filter-pair test a b = refl
 
 -- An L that the one lacks makes both of them, the other exchanged, possible together: no part of them is contradictory.
 pair-possible : (n c d : ℕ) (r f : List Mark) (s t : Bool) → c < n → is_loss (mark_at f c) ≡ true → is_loss (mark_at r c) ≡ false → d < n → is_win (mark_at r d) ≡ true → is_contradictory (fusion n (pair_of s t (map exchanged f) r)) ≡ false

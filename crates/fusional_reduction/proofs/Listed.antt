@@ -1,34 +1,33 @@
 -- The members of all kept nodes, found and put in order, are the two bases.
-use Rattle.std.proofs.Common.{◌≡◌, ◌≢◌, ◌⊎◌, ℕ, zero, suc, ◌+◌, ◌<◌, ◌≤◌, List, [], ◌∷◌, ◌++◌, Bool, true, false, not, ◌&&◌, ◌||◌, ◌==◌, cond, length, get_or, map, arith, refl, sym, ap, subst, ◌∙◌, inl, inr}
-use Rattle.std.specs.Prelude.{Result, Ok, Err, IfOk, filter, All, AllPairs, Contains, Any, IsTrue, slice_index_or}
-use Rattle.std.specs.List.{list_all, list_any, dedup}
+use Rattle.std.proofs.Common.{◌≡◌, ℕ, zero, suc, ◌<◌, List, [], ◌∷◌, true, false, length, get_or, map, arith, refl, sym, ap, subst, ◌∙◌, inl, inr}
+use Rattle.std.specs.Prelude.{Result, Ok, Err, IfOk, All, Contains, Any, IsTrue, slice_index_or}
+use Rattle.std.specs.List.{dedup}
 use Rattle.std.specs.List.Sorted.{IsPermutation, IsSorted}
 use Rattle.std.specs.Cmp.{IsTotalOrder}
 use Rattle.std.specs.Ordering.{nat_cmp, is_lt, is_eq, eq_by_cmp}
 use Rattle.std.specs.Cmp.Lexicographic.{slice_cmp}
 use Rattle.std.specs.declared.cmp.Ordering.{Ordering}
 use Rattle.std.specs.declared.cmp.Ordering.TheVariants.{Less, Equal, Greater}
-use Rattle.std.proofs.lemmas.Bool.{cases_order, and_from, and_parts, cases_Bool, eq-eqb, false_from_ne_true, not-true}
+use Rattle.std.proofs.lemmas.Bool.{cases_order, and_from, and_parts, eq-eqb, false_from_ne_true}
 use Rattle.std.proofs.lemmas.Cmp.{nat_list_cmp_total, eq_by_cmp_equiv, tied_itself}
 use Rattle.std.proofs.lemmas.List.FromFn.{length-map-range_with_len}
-use Rattle.std.proofs.lemmas.List.{get_or-map, get_or_default, length-map, append-nil}
-use Rattle.std.proofs.lemmas.List.Sums.{list_all-from_AllPass, AllPass-from_list_all}
+use Rattle.std.proofs.lemmas.List.{get_or-map, get_or_default, length-map}
+use Rattle.std.proofs.lemmas.List.Sums.{list_all-from_AllPass}
 use Rattle.std.proofs.lemmas.List.Sorted.{Contains-permutation, All-permutation}
 use Rattle.std.proofs.lemmas.List.Kept.{Any-dedup, Contains-from_dedup, IsStrictlySortedBy-dedup}
 use Rattle.std.proofs.lemmas.Map.Keys.{Less-from_sorted}
 use Rattle.ot_theory.specs.declared.Mark.{Mark}
 use Rattle.ot_theory.specs.declared.Mark.TheVariants.{W, L, E}
-use Rattle.ot_theory.specs.Conditions.{keeps, is_win, is_loss, mark_at, fusion, width_of}
+use Rattle.ot_theory.specs.Conditions.{keeps, fusion, has_both}
 use Rattle.ot_theory.specs.Refutations.{no_ranking_keeps}
 use Rattle.ot_theory.proofs.Sets.{IsPart}
 use Rattle.fusional_reduction.specs.declared.member.Member.{Member}
-use Rattle.fusional_reduction.specs.Nodes.{IsNode, has_both, is_kept, residue, stands_below, skeletal_form}
-use Rattle.fusional_reduction.specs.Nodes.IsNode.{whole, below}
-use Rattle.fusional_reduction.specs.Bases.{IsMember, StandAt, AreBases, place_of, comes_before}
-use Rattle.fusional_reduction.specs.Visits.{IsGiven, has_width, IsEnd, Leads, IsVisited, member_of, AreFound, AreListed}
+use Rattle.fusional_reduction.specs.Nodes.{IsNode, is_kept, residue, stands_below, skeletal_form}
+use Rattle.fusional_reduction.specs.Bases.{IsMember, AreBases, place_of, comes_before}
+use Rattle.fusional_reduction.specs.Visits.{IsGiven, has_width, IsEnd, IsVisited, member_of, AreFound, AreListed}
 use Rattle.fusional_reduction.proofs.Fusions.{loss_at, fusion-loss, loss-fusion, standing, it-any, part-filter, part-trans, not_both}
-use Rattle.fusional_reduction.proofs.NodesWithin.{node-part, node-some, same-end, same-fusion, residue-part}
-use Rattle.fusional_reduction.proofs.KeptNodes.{OwnLoss, own-loss, kept-own, given-part, length-fusion}
+use Rattle.fusional_reduction.proofs.NodesWithin.{node-part, node-some, same-end, same-fusion}
+use Rattle.fusional_reduction.proofs.KeptNodes.{own-loss, kept-own, given-part, length-fusion}
 use Rattle.fusional_reduction.proofs.Walk.{part-nonempty}
 use Rattle.fusional_reduction.specs.Laws.{HaveSameRankings, AreIndependent, AreDistinct}
 use Rattle.ot_theory.proofs.Entailing.{entails-from}

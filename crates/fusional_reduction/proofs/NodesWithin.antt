@@ -1,17 +1,16 @@
 -- Which conditions lie within a node, and that a node is known by its conditions, and by its fusion.
-use Rattle.std.proofs.Common.{◌≡◌, ◌⊎◌, ℕ, ◌<◌, List, [], ◌∷◌, Bool, true, false, not, ◌&&◌, ◌||◌, arith, refl, sym, ◌∙◌, ap, cond, inl, inr, length}
+use Rattle.std.proofs.Common.{◌≡◌, ◌⊎◌, ℕ, ◌<◌, List, [], ◌∷◌, Bool, true, false, ◌&&◌, arith, refl, sym, ◌∙◌, ap, cond, inl, inr, length}
 use Rattle.std.specs.Prelude.{filter}
 use Rattle.std.specs.List.{list_all, list_any}
 use Rattle.std.proofs.lemmas.Bool.{and_parts, and_from, cases_Bool, false_from_ne_true}
 use Rattle.ot_theory.specs.declared.Mark.{Mark}
 use Rattle.ot_theory.specs.Conditions.{mark_at, is_win, is_loss, is_even, fusion}
-use Rattle.ot_theory.specs.Rankings.{numbers_below}
 use Rattle.ot_theory.proofs.Strata.{range-any}
 use Rattle.ot_theory.proofs.Sets.{IsPart, IsPart-filter, both_ways}
 use Rattle.fusional_reduction.specs.Visits.{IsEnd}
 use Rattle.fusional_reduction.specs.Nodes.{IsNode, is_even_at, even_part, stands_below, residue}
 use Rattle.fusional_reduction.specs.Nodes.IsNode.{whole, below}
-use Rattle.fusional_reduction.proofs.Fusions.{win_at, loss_at, fusion-win, win-fusion, fusion-even, even-fusion, EvenAt, even-all, all-even, none-part, part-trans, part-filter, all-filter, all-if_then, if_then, it-passes, win-left, even-not-win, not_both, neither, fusion-loss, all-each}
+use Rattle.fusional_reduction.proofs.Fusions.{win_at, loss_at, fusion-win, win-fusion, fusion-even, even-fusion, even-all, all-even, none-part, part-trans, part-filter, all-filter, all-if_then, if_then, it-passes, win-left, not_both, fusion-loss, all-each}
 
 pub part-same : (set : List (List Mark)) → IsPart set set
 part-same set p h = h

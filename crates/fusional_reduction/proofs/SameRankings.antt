@@ -1,24 +1,22 @@
 -- The same rankings keep a set and its bases.
-use Rattle.std.proofs.Common.{◌≡◌, ◌⊎◌, ℕ, zero, suc, ◌+◌, ◌<◌, ◌≤◌, List, [], ◌∷◌, Bool, true, false, not, ◌&&◌, ◌||◌, ◌==◌, arith, refl, sym, ◌∙◌, ap, cond, inl, inr, length, map}
+use Rattle.std.proofs.Common.{◌≡◌, ℕ, zero, suc, ◌+◌, ◌<◌, ◌≤◌, List, [], ◌∷◌, Bool, true, false, not, ◌&&◌, arith, refl, sym, ◌∙◌, ap, inl, inr, length}
 use Rattle.std.specs.Prelude.{filter, slice_index_or}
-use Rattle.std.specs.List.{list_all, list_any}
+use Rattle.std.specs.List.{list_all}
 use Rattle.std.proofs.lemmas.Bool.{and_parts, and_from, cases_Bool, cases_lt, false_from_ne_true, not-true, eqb-true}
 use Rattle.std.proofs.lemmas.List.{get_or_past, get_or_default}
 use Rattle.std.proofs.lemmas.List.Sums.{AllPass-from_list_all, list_all-from_AllPass}
 use Rattle.std.proofs.lemmas.List.FromFn.{get_or-map-range_with_len, length-map-range_with_len}
 use Rattle.ot_theory.specs.declared.Mark.{Mark}
 use Rattle.ot_theory.specs.declared.Mark.TheVariants.{W, L, E}
-use Rattle.ot_theory.specs.Rankings.{IsRanking, numbers_below}
 use Rattle.ot_theory.specs.Conditions.{keeps, mark_at, is_win, is_loss, is_even, fusion}
 use Rattle.ot_theory.specs.Reductions.{IsStronger}
 use Rattle.ot_theory.proofs.Strata.{mark_tells, any-range}
-use Rattle.ot_theory.proofs.Sets.{IsPart, IsPart-filter, both_ways}
+use Rattle.ot_theory.proofs.Sets.{IsPart, both_ways}
 use Rattle.fusional_reduction.specs.Visits.{IsGiven, has_width}
 use Rattle.fusional_reduction.specs.Nodes.{IsNode, is_even_at, even_part, stands_below, residue, is_kept, skeletal_mark, skeletal_form}
 use Rattle.fusional_reduction.specs.Nodes.IsNode.{whole, below}
-use Rattle.fusional_reduction.specs.Bases.{IsMember, StandAt, AreBases}
 use Rattle.fusional_reduction.specs.Laws.{HaveSameRankings}
-use Rattle.fusional_reduction.proofs.Fusions.{win_at, loss_at, fusion-win, fusion-loss, loss-fusion, fusion-past, fusion-even, EvenAt, even-fusion, even-all, all-even, all-none, none-part, part-trans, part-filter, standing, all-each, all-filter, it-passes, it-any, neither, win-left, even-not-win, even-not-loss, win-not-loss, not_both}
+use Rattle.fusional_reduction.proofs.Fusions.{win_at, loss_at, fusion-win, fusion-loss, loss-fusion, fusion-past, fusion-even, even-fusion, even-all, all-even, all-none, part-trans, part-filter, standing, all-each, it-passes, it-any, neither, win-left, even-not-win, not_both}
 use Rattle.fusional_reduction.proofs.NodesWithin.{node-part, node-some, residue-part, all-residue, below-at}
 use Rattle.fusional_reduction.proofs.KeptNodes.{given-part, kept-own, has_own_loss, stronger-residue, stronger-kept}
 

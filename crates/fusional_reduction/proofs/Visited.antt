@@ -1,22 +1,20 @@
 -- The nodes that the conditions of a group lead to, and what is found of them.
-use Rattle.std.proofs.Common.{◌≡◌, ◌⊎◌, ℕ, zero, suc, ◌+◌, ◌<◌, ◌≤◌, List, [], ◌∷◌, ◌++◌, Bool, true, false, not, ◌&&◌, ◌||◌, ◌==◌, arith, refl, sym, ◌∙◌, ap, subst, cond, inl, inr, length, map, append_assoc, length-append}
-use Rattle.std.specs.Prelude.{filter, All, Contains, slice_index_or}
+use Rattle.std.proofs.Common.{◌≡◌, ℕ, ◌+◌, ◌<◌, List, [], ◌∷◌, ◌++◌, Bool, true, false, not, ◌&&◌, ◌||◌, arith, refl, sym, ◌∙◌, ap, subst, cond, inl, inr, length, append_assoc, length-append}
+use Rattle.std.specs.Prelude.{filter, Contains}
 use Rattle.std.specs.List.{list_all, list_any}
-use Rattle.std.proofs.lemmas.Bool.{and_parts, and_from, cases_Bool, false_from_ne_true, not-true, or_left, or_right, or_parts}
+use Rattle.std.proofs.lemmas.Bool.{and_parts, and_from, cases_Bool, not-true}
 use Rattle.std.proofs.lemmas.List.{append-nil, get_or_append_left, get_or-append-add}
-use Rattle.std.proofs.lemmas.List.Elements.{All-nil, All-cons, All-head, All-tail, All-append}
+use Rattle.std.proofs.lemmas.List.Elements.{All-nil, All-cons, All-append}
 use Rattle.ot_theory.specs.declared.Mark.{Mark}
 use Rattle.ot_theory.specs.declared.Mark.TheVariants.{W, L, E}
-use Rattle.ot_theory.specs.Rankings.{numbers_below}
-use Rattle.ot_theory.specs.Conditions.{mark_at, is_win, is_loss, is_even, fusion}
+use Rattle.ot_theory.specs.Conditions.{mark_at, is_win, is_loss, is_even}
 use Rattle.ot_theory.proofs.Sets.{IsPart, IsPart-filter}
 use Rattle.fusional_reduction.specs.declared.member.Member.{Member}
 use Rattle.fusional_reduction.specs.Visits.{IsEnd, Leads, IsVisited, member_of}
-use Rattle.fusional_reduction.specs.Nodes.{IsNode, is_even_at, even_part, stands_below, is_kept, skeletal_form}
+use Rattle.fusional_reduction.specs.Nodes.{IsNode, is_even_at, even_part, is_kept}
 use Rattle.fusional_reduction.specs.Nodes.IsNode.{whole, below}
 use Rattle.fusional_reduction.specs.Bases.{IsMember}
-use Rattle.fusional_reduction.proofs.Fusions.{win_at, loss_at, fusion-win, none-part, part-trans, part-filter, it-passes, all-filter, win-fusion, neither, even-not-win, not_both, even-all, all-none, all-each}
-use Rattle.fusional_reduction.proofs.NodesWithin.{node-part, below-at}
+use Rattle.fusional_reduction.proofs.Fusions.{win_at, loss_at, none-part, part-filter, it-passes, win-fusion, not_both, even-all, all-none, all-each}
 use Rattle.fusional_reduction.proofs.SameRankings.{part-some}
 
 -- ---- a node of a node is a node

@@ -1,27 +1,26 @@
 -- One step of the walk to the nodes that conditions lead to.
-use Rattle.std.proofs.Common.{◌≡◌, ◌≢◌, ◌⊎◌, ℕ, zero, suc, ◌+◌, ◌^◌, ◌<◌, ◌≤◌, List, [], ◌∷◌, ◌++◌, Bool, true, false, not, ◌&&◌, ◌||◌, ◌==◌, cond, length, get_or, arith, refl, sym, ap, subst, ◌∙◌, inl, inr}
+use Rattle.std.proofs.Common.{◌≡◌, ◌≢◌, ℕ, ◌+◌, ◌^◌, ◌<◌, ◌≤◌, List, [], ◌∷◌, ◌++◌, Bool, true, not, ◌&&◌, ◌==◌, cond, length, get_or, arith, refl, sym, ap, subst, ◌∙◌, inl, inr}
 use Rattle.std.specs.Prelude.{filter, All}
 use Rattle.std.specs.List.{list_all, list_any}
 use Rattle.std.specs.Int.{bit_at, w64, trailing_zeros}
 use Rattle.std.proofs.lemmas.Nat.Bits.{bit_at-trailing_zeros}
-use Rattle.std.proofs.lemmas.Bool.{cases_lt, cases_Bool, and_from, and_parts, eqb-true, eq-eqb, false_from_ne_true, not-true}
-use Rattle.std.proofs.lemmas.List.Folds.{list_any_at}
+use Rattle.std.proofs.lemmas.Bool.{cases_Bool, and_from, and_parts, eqb-true, eq-eqb, false_from_ne_true, not-true}
 use Rattle.std.proofs.lemmas.List.Sums.{AllPass-from_list_all, list_all-from_AllPass}
 use Rattle.ot_theory.specs.declared.Mark.{Mark}
 use Rattle.ot_theory.specs.Rankings.{numbers_below}
-use Rattle.ot_theory.specs.Conditions.{is_win, is_loss, is_even, mark_at, fusion, width_of}
+use Rattle.ot_theory.specs.Conditions.{is_win, mark_at, fusion, width_of}
 use Rattle.ot_theory.proofs.Strata.{any-range, range-any}
 use Rattle.ot_theory.proofs.Sets.{IsPart, IsPart-filter, both_ways}
 use Rattle.erc_vectors.specs.Masks.{IsMask}
 use Rattle.fusional_reduction.specs.declared.member.Member.{Member}
 use Rattle.fusional_reduction.specs.Chosen.{wins_in}
-use Rattle.fusional_reduction.specs.Nodes.{IsNode, is_even_at, stands_below, is_kept}
-use Rattle.fusional_reduction.specs.Visits.{IsGiven, has_width, IsEnd, IsVisited, member_of}
-use Rattle.fusional_reduction.proofs.Fusions.{win_at, loss_at, fusion-win, it-passes, it-any, part-trans, part-filter, all-filter, even-not-win, not_both, standing, all-each}
+use Rattle.fusional_reduction.specs.Nodes.{IsNode, is_even_at, is_kept}
+use Rattle.fusional_reduction.specs.Visits.{IsGiven, has_width, IsVisited, member_of}
+use Rattle.fusional_reduction.proofs.Fusions.{win_at, fusion-win, it-passes, part-trans, part-filter, all-filter, even-not-win, not_both, standing}
 use Rattle.fusional_reduction.proofs.KeptNodes.{given-part}
 use Rattle.fusional_reduction.proofs.SameRankings.{filter-long, filter-shorter, part-some}
 use Rattle.fusional_reduction.proofs.Visited.{filter-equal, clear-node, is_clear, visited-both, visited-end, visited-none}
-use Rattle.fusional_reduction.proofs.ByMasks.{WinIn, wins_in-some, wins_in-at, bit-test, test-bit}
+use Rattle.fusional_reduction.proofs.ByMasks.{wins_in-some, wins_in-at, bit-test, test-bit}
 
 pub width-is : (n : ℕ) (set : List (List Mark)) → list_all (has_width n) set ≡ true → 0 < length set → width_of set ≡ n
 width-is n [] h some = absurd (omega arith)
@@ -30,9 +29,6 @@ width-is n (m ∷ set) h some = eqb-true _ _ (and_parts _ _ h).0
 pub part-nonempty : (part set : List (List Mark)) → IsPart part set → 0 < length part → 0 < length set
 part-nonempty [] set h some = absurd (omega arith)
 part-nonempty (m ∷ part) set h some = part-some m set (λ p all. and_from _ _ (and_parts _ _ (h p all)).0 refl)
-
-pub at-part : (set : List (List Mark)) (k : ℕ) (d : List Mark) → k < length set → IsPart (get_or set k d ∷ []) set
-at-part set k d small p all = and_from _ _ (AllPass-from_list_all p set all k d small) refl
 
 -- the group, the fusion's W's, and the constraints at which it parts
 pub record AreParted (n : ℕ) (node group : List (List Mark)) (fused : List Mark) (wins away : ℕ) : Type 0 where

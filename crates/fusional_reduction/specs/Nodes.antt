@@ -7,10 +7,6 @@ use Rattle.ot_theory.specs.Rankings.{numbers_below}
 use Rattle.ot_theory.specs.Conditions.{mark_at, is_win, is_loss, is_even, fusion}
 use Rattle.ot_theory.specs.Entailment.{entails}
 
--- a condition with both W and L
-abbrev pub has_both : List Mark → Bool
-has_both marks = list_any is_win marks && list_any is_loss marks
-
 abbrev pub is_even_at : ℕ → List Mark → Bool
 is_even_at k marks = is_even (mark_at marks k)
 

@@ -2,11 +2,11 @@
 use Rattle.std.specs.Prelude.{◌≡◌, ℕ, ◌==◌, Bool, true, false, List, [], ◌∷◌, ◌++◌, length, All, AllPairs, Contains}
 use Rattle.std.specs.List.{list_all}
 use Rattle.ot_theory.specs.declared.Mark.{Mark}
-use Rattle.ot_theory.specs.Conditions.{fusion}
+use Rattle.ot_theory.specs.Conditions.{fusion, has_both}
 use Rattle.ot_theory.specs.Refutations.{no_ranking_keeps}
 use Rattle.ot_theory.proofs.Sets.{IsPart}
 use Rattle.fusional_reduction.specs.declared.member.Member.{Member}
-use Rattle.fusional_reduction.specs.Nodes.{IsNode, has_both, stands_below, is_kept, skeletal_form}
+use Rattle.fusional_reduction.specs.Nodes.{IsNode, stands_below, is_kept, skeletal_form}
 use Rattle.fusional_reduction.specs.Bases.{IsMember, comes_before}
 
 -- whether a condition is over so many constraints

@@ -1,8 +1,7 @@
 ghost use Rattle.std.specs.Prelude.{◌≡◌, ℕ, List, false, length, map, All, IfOk, IsTrue};
 ghost use Rattle.ot_theory.specs.declared.Mark.{Mark};
-ghost use Rattle.ot_theory.specs.Conditions.{width_of};
+ghost use Rattle.ot_theory.specs.Conditions.{width_of, has_both};
 ghost use Rattle.ot_theory.specs.Refutations.{no_ranking_keeps};
-ghost use Rattle.fusional_reduction.specs.Nodes.{has_both};
 ghost use Rattle.fusional_reduction.specs.Bases.{AreBases};
 ghost use Rattle.fusional_reduction.specs.Visits.{IsGiven, AreFound, AreListed};
 ghost use Rattle.fusional_reduction.specs.Laws.{HaveSameRankings, AreIndependent, AreDistinct};

@@ -1,6 +1,3 @@
-ghost use Rattle.std.specs.Prelude.{◌≡◌};
-ghost use Rattle.fusional_reduction.specs.Nodes.{has_both};
-
 use crate::bases;
 use Mark::{E, L, W};
 use demotion::is_hopeless;
@@ -29,12 +26,6 @@ fn conditions(rt: &impl Abort, alloc: Global, texts: &[&str]) -> Result<Vec<Cond
     Ok(set)
 }
 
-fn has_both(condition: &Condition) -> bool
-    ensures { result ≡ has_both condition.now }
-{
-    condition.w_mask() != 0 && condition.l_mask() != 0
-}
-
 /// What a condition is to be compared by.
 fn masks(condition: &Condition) -> (usize, Mask, Mask) {
     (condition.width(), condition.w_mask(), condition.l_mask())
@@ -57,7 +48,7 @@ fn check(
 ) -> Result<(), NoMemory> {
     let width = if set.is_empty() { 0 } else { set[0].width() };
     assert!(rt; set.iter().all(|condition| condition.width() == width));
-    assert!(rt; set.iter().all(|condition| has_both(condition)));
+    assert!(rt; set.iter().all(|condition| condition.has_both()));
     assert!(rt; !is_hopeless(width, set));
     let bases = bases(alloc, set)?;
     check_members(rt, bases.informative.as_slice(), informative);

@@ -1,5 +1,5 @@
 -- The implications that tables tell are those of the problem.
-use Rattle.std.proofs.Common.{◌≡◌, ◌≢◌, ℕ, zero, suc, ◌+◌, ◌<◌, ◌≤◌, List, [], ◌∷◌, ◌++◌, Bool, true, false, not, ◌||◌, ◌&&◌, ◌==◌, cond, arith, refl, sym, ◌∙◌, ap, inl, inr, length, slice_index, slice_index_or, map, flat_map, append-nil, append_assoc, get_or, subst, Some, None}
+use Rattle.std.proofs.Common.{◌≡◌, ℕ, zero, suc, ◌+◌, ◌<◌, ◌≤◌, List, [], ◌∷◌, ◌++◌, Bool, true, false, not, ◌||◌, ◌&&◌, ◌==◌, cond, arith, refl, sym, ◌∙◌, ap, inl, inr, length, slice_index, slice_index_or, map, flat_map, append-nil, append_assoc, subst}
 use Rattle.std.specs.Prelude.{All, filter, fold}
 use Rattle.std.specs.List.{list_all, list_any, range_with_len}
 use Rattle.std.proofs.lemmas.Bool.{cases_Bool, eq-eqb}
@@ -8,8 +8,7 @@ use Rattle.std.proofs.lemmas.List.{map-append, get_or_default}
 use Rattle.std.proofs.lemmas.List.Elements.{filter-append, All-head, All-tail, All-filter, All-weaker}
 use Rattle.std.proofs.lemmas.Grind.{flat_map-append}
 use Rattle.ot_theory.specs.Rankings.{numbers_below}
-use Rattle.ot_base.specs.declared.tableau.ClassId.{ClassId}
-use Rattle.ot_base.specs.declared.limits.TheConstants.{CANDIDATE_LIMIT, INPUT_LIMIT}
+use Rattle.ot_base.specs.declared.limits.TheConstants.{CANDIDATE_LIMIT}
 use Rattle.ot_theory.specs.Problems.{Problem, Input}
 use Rattle.ot_theory.proofs.Optimal.{classes_in}
 use Rattle.ot_theory.specs.Languages.{classes_at, languages}
@@ -21,7 +20,7 @@ use Rattle.t_orders.specs.declared.seen.Seen.{Seen}
 use Rattle.t_orders.specs.declared.seen.Seen.TheVariants.{Nothing, One, Several}
 use Rattle.t_orders.specs.Implications.{Output, outputs, is_possible, implies, is_listed, implication, implications}
 use Rattle.t_orders.specs.Laws.{has}
-use Rattle.t_orders.specs.Rows.{seen_with, seen_of, seen_at, only_of, choices_of, IsRowOf, IsTableOf, having, IsChoice, implied_at, implied_by_row, implied_by_table}
+use Rattle.t_orders.specs.Rows.{seen_with, seen_of, seen_at, choices_of, IsRowOf, IsTableOf, having, IsChoice, implied_at, implied_by_row, implied_by_table}
 use Rattle.t_orders.proofs.OneLanguage.{IsChoice-languages}
 use Rattle.t_orders.proofs.ReadOff.{possible_by_languages, implied_by_languages}
 
@@ -251,54 +250,15 @@ from_table problem i table well below choices t =
     (λ a l u. from_output problem (output i a) (slice_index_or table a []) well below choices (t.rows a (omega arith)))
 
 -- ---- a step of each loop
-told-some : (from : Output) (j : ℕ) (seen : Seen) (class : ClassId) → Some class ≡ only_of seen → implied_at from j seen ≡ cond (j == from.input) [] (implication from (output j class.0) ∷ [])
-told-some from j Nothing class e = absurd (cc)
-told-some from j (One only) class e = let same : only ≡ class = cc in ap (λ (c : ClassId). cond (j == from.input) [] (implication from (output j c.0) ∷ [])) same
-told-some from j Several class e = absurd (cc)
-
-told-none : (from : Output) (j : ℕ) (seen : Seen) → None ≡ only_of seen → implied_at from j seen ≡ []
-told-none from j Nothing e = refl
-told-none from j (One only) e = absurd (cc)
-told-none from j Several e = refl
-
--- what a row tells of the inputs below
-abbrev told_below : Output → List Seen → ℕ → List Implication
-told_below from row n = flat_map (λ k. implied_at from k (seen_at row k)) (numbers_below n)
-
--- an input whose one class is implied
-pub row-one : (from : Output) (first before after : List Implication) (row : List Seen) (j : ℕ) (d : Seen) (class : ClassId) → j < length row → Some class ≡ only_of (get_or row j d) → j ≢ from.input
-    → before ≡ first ++ told_below from row j → after ≡ before ++ implication from (output j class.0) ∷ [] → after ≡ first ++ told_below from row (j + 1)
-row-one from first before after row j d class below e other h a =
-    let apart : (j == from.input) ≡ false = elim (eqb_tells j from.input) [ inl same ↦ absurd (other same.1) | inr differ ↦ differ.0 ] in
-    let here : implied_at from j (seen_at row j) ≡ implication from (output j class.0) ∷ [] =
-    told-some from j (seen_at row j) class (e ∙ ap only_of (get_or_default row j d Nothing below)) ∙ ap (λ (b : Bool). cond b [] (implication from (output j class.0) ∷ [])) apart in
-    added first before after (λ k. implied_at from k (seen_at row k)) j h (a ∙ ap (λ (l : List Implication). before ++ l) (sym here))
-
--- an input that tells nothing
-row-nothing : (from : Output) (first before after : List Implication) (row : List Seen) (j : ℕ) → implied_at from j (seen_at row j) ≡ []
-    → before ≡ first ++ told_below from row j → after ≡ before → after ≡ first ++ told_below from row (j + 1)
-row-nothing from first before after row j none h a =
-    added first before after (λ k. implied_at from k (seen_at row k)) j h (a ∙ sym (append-nil before) ∙ ap (λ (l : List Implication). before ++ l) (sym none))
-
--- the input of the implying output itself
-pub row-own : (from : Output) (first before after : List Implication) (row : List Seen) (j : ℕ) (d : Seen) (class : ClassId) → j < length row → Some class ≡ only_of (get_or row j d) → j ≡ from.input
-    → before ≡ first ++ told_below from row j → after ≡ before → after ≡ first ++ told_below from row (j + 1)
-row-own from first before after row j d class below e same =
-    row-nothing from first before after row j
-    (told-some from j (seen_at row j) class (e ∙ ap only_of (get_or_default row j d Nothing below)) ∙ ap (λ (b : Bool). cond b [] (implication from (output j class.0) ∷ [])) (eq-eqb j from.input same))
-
--- an input with no class or several
-pub row-none : (from : Output) (first before after : List Implication) (row : List Seen) (j : ℕ) (d : Seen) → j < length row → None ≡ only_of (get_or row j d)
-    → before ≡ first ++ told_below from row j → after ≡ before → after ≡ first ++ told_below from row (j + 1)
-row-none from first before after row j d below e =
-    row-nothing from first before after row j (told-none from j (seen_at row j) (e ∙ ap only_of (get_or_default row j d Nothing below)))
-
--- a row more
-pub table-row : (i : ℕ) (first before after : List Implication) (table : List (List Seen)) (a : ℕ) (row : List Seen) → row ≡ get_or table a []
-    → before ≡ first ++ flat_map (λ a. implied_by_row (output i a) (slice_index_or table a [])) (numbers_below a) → after ≡ before ++ implied_by_row (output i a) row
+-- a row more, once all its inputs are told
+pub table-row : (i : ℕ) (first before after : List Implication) (table : List (List Seen)) (a j inputs : ℕ) → All (λ row. length row ≡ inputs) table → a < length table → j ≡ inputs
+    → before ≡ first ++ flat_map (λ a. implied_by_row (output i a) (slice_index_or table a [])) (numbers_below a)
+    → after ≡ before ++ flat_map (λ k. implied_at (output i a) k (seen_at (slice_index_or table a []) k)) (numbers_below j)
     → after ≡ first ++ flat_map (λ a. implied_by_row (output i a) (slice_index_or table a [])) (numbers_below (a + 1))
-table-row i first before after table a row same h e =
-    added first before after (λ a. implied_by_row (output i a) (slice_index_or table a [])) a h (e ∙ ap (λ (r : List Seen). before ++ implied_by_row (output i a) r) same)
+table-row i first before after table a j inputs widths below all h e =
+    let long : j ≡ length (slice_index_or table a []) = omega (arith, all, widths a [] below) in
+    added first before after (λ a. implied_by_row (output i a) (slice_index_or table a [])) a h
+    (e ∙ ap (λ (n : ℕ). before ++ flat_map (λ k. implied_at (output i a) k (seen_at (slice_index_or table a []) k)) (numbers_below n)) long)
 
 -- the choices of languages are those beside their hierarchies
 pub choices-found : (languages : List Language) → choices_of languages ≡ map (λ language. language.0) (found_of languages)
@@ -311,11 +271,11 @@ few_classes n [] i h below = absurd (omega arith)
 few_classes n (input ∷ inputs) zero h below = (All-head (IsWellFormedInput n) input inputs h).few
 few_classes n (input ∷ inputs) (suc i) h below = few_classes n inputs i (All-tail (IsWellFormedInput n) input inputs h) (omega arith)
 
--- rows are no longer than the limit
-pub few_inputs : (problem : Problem) (choices : List (List ℕ)) (i classes : ℕ) (table : List (List Seen)) → IsWellFormed problem → IsTableOf choices i classes (length problem.inputs) table → All (λ row. length row ≤ INPUT_LIMIT) table
-few_inputs problem choices i classes table well t k d below =
+-- each row has an item for each input
+pub row_widths : (problem : Problem) (choices : List (List ℕ)) (i classes inputs : ℕ) (table : List (List Seen)) → IsTableOf choices i classes (length problem.inputs) table → inputs ≡ length problem.inputs → All (λ row. length row ≡ inputs) table
+row_widths problem choices i classes inputs table t all k d below =
     let r = t.rows k (omega (arith, t.long)) in
-    subst (λ (row : List Seen). length row ≤ INPUT_LIMIT) (get_or_default table k [] d below) (omega (arith, r.width, well.inputs))
+    subst (λ (row : List Seen). length row ≡ inputs) (get_or_default table k [] d below) (r.width ∙ sym all)
 
 -- an input more
 pub input-more : (problem : Problem) (choices : List (List ℕ)) (i : ℕ) (table : List (List Seen)) (before after : List Implication) → IsWellFormed problem → i < length problem.inputs → choices ≡ languages problem

@@ -22,22 +22,6 @@ pub record IsBlank (n : ℕ) (row : List Seen) : Type 0 where
   pub width : length row ≡ n
   pub each : (j : ℕ) → seen_at row j ≡ Nothing
 
-blank-at : (row : List Seen) → ((j : ℕ) → seen_at row j ≡ Nothing) → (j : ℕ) → seen_at (row ++ Nothing ∷ []) j ≡ Nothing
-blank-at [] h zero = refl
-blank-at [] h (suc j) = refl
-blank-at (x ∷ row) h zero = h 0
-blank-at (x ∷ row) h (suc j) = blank-at row (λ k. h (suc k)) j
-
-longer : (row : List Seen) → length (row ++ Nothing ∷ []) ≡ length row + 1
-longer [] = refl
-longer (x ∷ row) = omega (arith, longer row)
-
-pub blank-push : (n : ℕ) (row new : List Seen) → new ≡ row ++ Nothing ∷ [] → IsBlank n row → IsBlank (n + 1) new
-blank-push n row new e h = record { width = rw e (omega (arith, longer row, h.width)); each = λ j. rw e (blank-at row h.each j) }
-
-pub blank-row : (n : ℕ) (row : List Seen) → IsBlank n row → IsRowOf [] n row
-blank-row n row h = record { width = h.width; each = λ j below. h.each j }
-
 -- ---- a row with a choice more
 -- the classes of the choice so far are added
 pub record IsNoted (old row : List Seen) (classes : List ℕ) (j : ℕ) : Type 0 where
@@ -45,35 +29,7 @@ pub record IsNoted (old row : List Seen) (classes : List ℕ) (j : ℕ) : Type 0
   pub before : (k : ℕ) → k < j → seen_at row k ≡ seen_with (seen_at old k) (slice_index classes k)
   pub behind : (k : ℕ) → j ≤ k → seen_at row k ≡ seen_at old k
 
-pub noted-none : (row : List Seen) (classes : List ℕ) → IsNoted row row classes 0
-noted-none row classes = record { long = refl; before = λ k below. absurd (omega arith); behind = λ k above. refl }
-
-pub noted-more : (old row new : List Seen) (classes : List ℕ) (j : ℕ) → j < length row → new ≡ set row j (seen_with (seen_at row j) (slice_index classes j)) → IsNoted old row classes j → IsNoted old new classes (j + 1)
-noted-more old row new classes j within e h =
-    let one : Seen = seen_with (seen_at row j) (slice_index classes j) in
-    record {
-      long = rw (e, length-set row j one) h.long;
-      before = λ k below. elim (cases_eq k j) [
-        | inl here ↦ rw (e, here, get_or-set_same row j one Nothing within) (ap (λ (s : Seen). seen_with s (slice_index classes j)) (h.behind j (omega arith)))
-        | inr other ↦ rw (e, get_or-set_other row j k one Nothing other) (h.before k (omega arith))
-      ];
-      behind = λ k above. let other : k ≢ j = omega arith in rw (e, get_or-set_other row j k one Nothing other) (h.behind k (omega arith));
-    }
-
-pub noted-row : (choices : List (List ℕ)) (inputs : ℕ) (old row : List Seen) (classes : List ℕ) (j : ℕ) → length old ≤ j → IsNoted old row classes j → IsRowOf choices inputs old → IsRowOf (choices ++ classes ∷ []) inputs row
-noted-row choices inputs old row classes j all h r = record {
-  width = h.long ∙ r.width;
-  each = λ k below.
-      h.before k (omega (arith, r.width))
-      ∙ ap (λ (s : Seen). seen_with s (slice_index classes k)) (r.each k below)
-      ∙ sym (fold-append seen_with Nothing (map (λ choice. slice_index choice k) choices) (slice_index classes k ∷ []))
-      ∙ sym (ap seen_of (map-append (λ choice. slice_index choice k) choices (classes ∷ [])));
-}
-
 -- ---- a table with a choice more
-pub table-none : (classes inputs : ℕ) (table : List (List Seen)) → length table ≡ classes → All (IsRowOf [] inputs) table → (i : ℕ) → IsTableOf [] i classes inputs table
-table-none classes inputs table long each i = record { long = long; rows = λ a below. each a [] (omega arith) }
-
 having-here : (output : Output) (choices : List (List ℕ)) (choice : List ℕ) → has output choice ≡ true → having output (choices ++ choice ∷ []) ≡ having output choices ++ choice ∷ []
 having-here output choices choice h = filter-append (has output) choices (choice ∷ []) ∙ rw h refl
 

@@ -1,12 +1,11 @@
 //! The listing of implications.
 
-ghost use Rattle.std.specs.Prelude.{◌≡◌, ◌≤◌, ◌++◌, All, IfOk, OnOk, length};
+ghost use Rattle.std.specs.Prelude.{◌≡◌, ◌<◌, ◌≤◌, ◌++◌, [], All, IfOk, OnOk, length, slice_index_or};
 ghost use Rattle.refutation.specs.Typologies.{found_of};
 ghost use Rattle.t_orders.specs.Implications.{AreLanguages, implications};
-ghost use Rattle.t_orders.specs.Rows.{implied_by_row, implied_by_table};
+ghost use Rattle.t_orders.specs.Rows.{implied_at, implied_by_table, seen_at};
 
 use crate::row::Row;
-use crate::seen::Seen;
 use crate::table::table_of;
 use erc_vectors::{List, NoMemory};
 use ot_base::{CANDIDATE_LIMIT, ClassId, INPUT_LIMIT, InId};
@@ -29,50 +28,56 @@ pub fn implications(
     for i in 0..p.inputs() {
         let from_input = InId(i as u32);
         let table = table_of(alloc, p, languages, from_input)?;
-        add_by_table(&mut listed, from_input, &table)?;
+        add_by_table(&mut listed, from_input, &table, p.inputs())?;
     }
     Ok(listed)
 }
 
-/// Adds the implications of all classes of an input, each of which has a row.
+/// Adds the implications of all classes of an input, each of which has a row, in order of class and then of the other input.
 fn add_by_table(
     listed: &mut List<Implication>,
     from_input: InId,
     table: &[Row],
+    inputs: usize,
 ) -> Result<(), NoMemory>
     requires classes { length table.now ≤ CANDIDATE_LIMIT }
-    requires inputs { All (λ row. length row ≤ INPUT_LIMIT) table.now }
+    requires inputs { inputs ≤ INPUT_LIMIT }
+    requires widths { All (λ row. length row ≡ inputs) table.now }
     ensures { OnOk result (listed.new ≡ listed.old ++ implied_by_table from_input.0 table.now) }
 {
-    prove!(table.len() <= CANDIDATE_LIMIT);
-    for (a, row) in table.iter().enumerate() {
-        add_by_row(listed, from_input, ClassId(a as u16), row.as_slice())?;
+    let classes = table.len();
+    for a in 0..classes {
+        for j in 0..inputs {
+            add_at(listed, from_input, table, a, j)?;
+        }
     }
     Ok(())
 }
 
-/// Adds the implications of one class of an input, from its row.
-fn add_by_row(
+/// Adds what class a of an input implies of input j, if the row of the class tells it.
+fn add_at(
     listed: &mut List<Implication>,
     from_input: InId,
-    from_class: ClassId,
-    row: &[Seen],
+    table: &[Row],
+    a: usize,
+    j: usize,
 ) -> Result<(), NoMemory>
-    requires { length row.now ≤ INPUT_LIMIT }
-    ensures { OnOk result (listed.new ≡ listed.old ++ implied_by_row (record { input = from_input.0; class = from_class.0 }) row.now) }
+    requires class { a < length table.now }
+    requires classes { length table.now ≤ CANDIDATE_LIMIT }
+    requires input { j < length (slice_index_or table.now a []) }
+    requires inputs { length (slice_index_or table.now a []) ≤ INPUT_LIMIT }
+    ensures { OnOk result (listed.new ≡ listed.old ++ implied_at (record { input = from_input.0; class = a }) j (seen_at (slice_index_or table.now a []) j)) }
 {
-    prove!(row.len() <= INPUT_LIMIT);
-    for (j, seen) in row.iter().enumerate() {
-        let to_input = InId(j as u32);
-        if let Some(to_class) = seen.only() {
-            if to_input.0 != from_input.0 {
-                listed.push(Implication {
-                    from_input,
-                    from_class,
-                    to_input,
-                    to_class,
-                })?;
-            }
+    let seen = table[a].as_slice()[j];
+    let (from_class, to_input) = (ClassId(a as u16), InId(j as u32));
+    if let Some(to_class) = seen.only() {
+        if to_input.0 != from_input.0 {
+            listed.push(Implication {
+                from_input,
+                from_class,
+                to_input,
+                to_class,
+            })?;
         }
     }
     Ok(())

@@ -1,5 +1,5 @@
 ghost use Rattle.std.specs.Prelude.{◌≡◌, ◌≤◌, ◌∷◌, ◌++◌, [], true, false, not, filter, flat_map, length, map, IfOk, OnOk, MatchOption};
-ghost use Rattle.ot_base.specs.Acceptable.{IsRow, AreRows};
+ghost use Rattle.ot_base.specs.Acceptable.{AreRows};
 ghost use Rattle.ot_theory.specs.Hierarchies.{IsLeastHierarchy};
 ghost use Rattle.ot_theory.specs.Languages as theory;
 ghost use Rattle.ot_theory.specs.Languages.{conditions_of, refuted};
@@ -12,7 +12,7 @@ ghost use Rattle.t_orders.specs.Implications.{AreLanguages};
 use crate::implications;
 use demotion::least_hierarchy;
 use erc_vectors::{List, NoMemory, Strata};
-use ot_base::{CandidateRow, ClassId, InId, InputRows, Label, Tableau};
+use ot_base::{ClassId, InId, InputRows, input_of, tableau_of};
 use refutation::{Language, Prefix, conditions_of, is_prefix, terms_of};
 use std::alloc::Global;
 use std::test::Fail;
@@ -36,43 +36,11 @@ const VOWEL_FIRST: Marks = [[1, 0, 0, 0], [0, 0, 0, 1], [0, 0, 1, 0]];
 /// Syllables that end in a consonant, under the same constraints.
 const CONSONANT_LAST: Marks = [[0, 1, 0, 0], [0, 0, 0, 1], [0, 0, 1, 0]];
 
-fn row(alloc: Global, marks: &[u8; 4]) -> Result<CandidateRow, NoMemory>
-    ensures { IfOk result (λ row. IsRow 4 row) }
-{
-    let mut violations = List::new(alloc);
-    for violation in marks {
-        violations.push(u32::from(*violation))?;
-    }
-    Ok(CandidateRow {
-        text: Label::of(alloc, b"")?,
-        count: 0,
-        violations,
-        line: 3,
-    })
-}
-
 fn input(alloc: Global, rows: &Marks) -> Result<InputRows, NoMemory>
     ensures rows { IfOk result (λ input. AreRows 4 input) }
     ensures three { IfOk result (λ input. length input.candidates ≡ 3) }
 {
-    let mut candidates = List::new(alloc);
-    for marks in rows {
-        candidates.push(row(alloc, marks)?)?;
-    }
-    Ok(InputRows {
-        text: Label::of(alloc, b"")?,
-        candidates,
-    })
-}
-
-fn names(alloc: Global) -> Result<List<Label>, NoMemory>
-    ensures { IfOk result (λ names. length names ≡ 4) }
-{
-    let mut names = List::new(alloc);
-    for _ in 0..4_usize {
-        names.push(Label::of(alloc, b"")?)?;
-    }
-    Ok(names)
+    input_of(alloc, "", &rows.map(|marks| ("", 0, marks)))
 }
 
 fn problem(alloc: Global, rows: &[Marks]) -> Result<Problem, NoMemory>
@@ -83,21 +51,15 @@ fn problem(alloc: Global, rows: &[Marks]) -> Result<Problem, NoMemory>
     for marks in rows {
         inputs.push(input(alloc, marks)?)?;
     }
-    let tableau = Tableau {
-        names: names(alloc)?,
-        abbrevs: names(alloc)?,
-        inputs,
-    };
-    Problem::of(alloc, &tableau)
+    let names = ["A", "B", "C", "D"];
+    Problem::of(alloc, &tableau_of(alloc, &names, &names, inputs)?)
 }
 
 fn put<T: Drop>(items: &mut Vec<T>, item: T) -> Result<(), NoMemory>
     ensures { OnOk result (items.new.items ≡ items.old.items ++ item ∷ []) }
 {
-    match items.push(item) {
-        Ok(()) => Ok(()),
-        Err(_) => Err(NoMemory),
-    }
+    items.push(item)?;
+    Ok(())
 }
 
 /// A class of one input more before a choice of the later ones.

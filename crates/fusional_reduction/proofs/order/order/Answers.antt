@@ -1,4 +1,4 @@
-use Rattle.std.proofs.Common.{arith, sym, ◌∙◌}
+use Rattle.std.proofs.Common.{arith}
 use Rattle.fusional_reduction.proofs.OrderOfMarks.{order-end}
 use Rattle.fusional_reduction.proofs.order.order.Goals as goal
 

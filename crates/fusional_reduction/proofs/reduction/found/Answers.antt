@@ -1,4 +1,4 @@
-use Rattle.std.proofs.Common.{List, ◌∙◌, sym, subst, []}
+use Rattle.std.proofs.Common.{List, ◌∙◌, sym, subst}
 use Rattle.std.proofs.lemmas.Bool.{eqb-true}
 use Rattle.ot_theory.specs.Conditions.{width_of}
 use Rattle.fusional_reduction.specs.declared.member.Member.{Member}

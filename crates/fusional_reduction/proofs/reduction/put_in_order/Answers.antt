@@ -3,7 +3,6 @@ use Rattle.std.proofs.lemmas.List.Sorted.{answers_always, ranks_by}
 use Rattle.std.proofs.lemmas.Cmp.{nat_list_cmp_total}
 use Rattle.std.proofs.lemmas.Fn.{dedup_same}
 use Rattle.std.specs.Ordering.{is_lt, eq_by_cmp}
-use Rattle.fusional_reduction.specs.declared.member.Member.{Member}
 use Rattle.fusional_reduction.proofs.Listed.{listed, key, by_key}
 use Rattle.fusional_reduction.proofs.reduction.put_in_order.Goals as goal
 

@@ -1,9 +1,8 @@
-use Rattle.std.proofs.Common.{arith, List, ℕ, ◌∙◌, sym, ◌≡◌, ◌<◌, length}
+use Rattle.std.proofs.Common.{arith, ◌∙◌, sym, ◌≡◌, length}
 use Rattle.std.proofs.lemmas.Result.{on_ok_weaker}
 use Rattle.std.proofs.lemmas.Bool.{eqb-true, eqb-false}
-use Rattle.ot_theory.specs.declared.Mark.{Mark}
 use Rattle.ot_theory.specs.Conditions.{width_of}
-use Rattle.fusional_reduction.proofs.Walk.{part-nonempty, ended, AreParted, are-parted, Asks, asks-below, asks-rest, walked, walked-all}
+use Rattle.fusional_reduction.proofs.Walk.{part-nonempty, ended, are-parted, asks-below, asks-rest, walked, walked-all}
 use Rattle.fusional_reduction.proofs.visit.+visit.Goals as goal
 
 pub fuse-fused-requires-clause-some : goal.fuse-fused-requires-clause-some

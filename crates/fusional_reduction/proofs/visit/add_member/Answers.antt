@@ -1,4 +1,4 @@
-use Rattle.std.proofs.Common.{arith, refl, sym, ap, ◌∙◌, ◌≡◌, ℕ}
+use Rattle.std.proofs.Common.{arith, ◌∙◌}
 use Rattle.ot_theory.specs.Conditions.{width_of}
 use Rattle.fusional_reduction.proofs.Added.{own-apart, added-none, added-one}
 use Rattle.fusional_reduction.proofs.visit.add_member.Goals as goal

@@ -1,11 +1,10 @@
-use Rattle.std.proofs.Common.{◌≡◌, ℕ, List, All, ◌≤◌, ◌∙◌, ◌++◌, ap, arith, flat_map, length, sym, subst}
-use Rattle.ot_base.specs.declared.limits.TheConstants.{INPUT_LIMIT}
+use Rattle.std.proofs.Common.{◌≡◌, ℕ, List, All, ◌∙◌, ◌++◌, ap, arith, flat_map, length, sym, subst}
 use Rattle.ot_theory.specs.Rankings.{numbers_below}
 use Rattle.ot_theory.specs.Languages.{classes_at, languages}
 use Rattle.t_orders.specs.declared.seen.Seen.{Seen}
 use Rattle.t_orders.specs.Rows.{choices_of, IsChoice, implied_by_table}
 use Rattle.t_orders.proofs.OneLanguage.{IsChoice-languages}
-use Rattle.t_orders.proofs.Listed.{choices-found, few_classes, few_inputs, from_input, input-more, listed-whole}
+use Rattle.t_orders.proofs.Listed.{choices-found, few_classes, row_widths, from_input, input-more, listed-whole}
 use Rattle.t_orders.proofs.listing.implications.Goals as goal
 
 pub table_of-requires-clause-choices : goal.table_of-requires-clause-choices
@@ -20,10 +19,10 @@ add_by_table-requires-clause-classes c =
     let long : length c.deref.result.now ≡ length (classes_at c.args.p.now c.loop-i.i) = ap (λ (t : List (List Seen)). length t) c.deref.ensures.value ∙ c.in_ok-table.ensures.long in
     omega (arith, below, long)
 
-pub add_by_table-requires-clause-inputs : goal.add_by_table-requires-clause-inputs
-add_by_table-requires-clause-inputs c =
-    subst (λ (t : List (List Seen)). All (λ row. length row ≤ INPUT_LIMIT) t) (sym c.deref.ensures.value)
-    (few_inputs c.args.p.now (choices_of c.args.languages.now) c.loop-i.i (length (classes_at c.args.p.now c.loop-i.i)) c.in_ok-table.table.items c.inputs-i-end.ensures.well_formed c.in_ok-table.ensures)
+pub add_by_table-requires-clause-widths : goal.add_by_table-requires-clause-widths
+add_by_table-requires-clause-widths c =
+    subst (λ (t : List (List Seen)). All (λ row. length row ≡ c.inputs.result) t) (sym c.deref.ensures.value)
+    (row_widths c.args.p.now (choices_of c.args.languages.now) c.loop-i.i (length (classes_at c.args.p.now c.loop-i.i)) c.inputs.result c.in_ok-table.table.items c.in_ok-table.ensures c.inputs.ensures.value)
 
 pub loop-i-preserved : goal.loop-i-preserved
 loop-i-preserved c =
