@@ -4,7 +4,7 @@ use Rattle.std.specs.Prelude.{All, Contains, nat_le, nat_lt, slice_get, slice_in
 use Rattle.std.specs.List.{list_all, list_any}
 use Rattle.std.specs.Option.{option_map_or}
 use Rattle.std.proofs.lemmas.Bool.{and_parts, and_from, cases_Bool, cases_lt, cases_eq, eq-eqb, le-leb, leb-true, eqb-true, not-true, or_cases, or_right, ltb-true}
-use Rattle.std.proofs.lemmas.List.{get_or-take, get_or-set_same, get_or-set_other, get_or_past, get_or_append_left, get_or_at, length-take-le, length_push, length-set, get_or_default, take_more, take_all, get_or-map}
+use Rattle.std.proofs.lemmas.List.{length-map, get_or-take, get_or-set_same, get_or-set_other, get_or_past, get_or_append_left, get_or_at, length-take-le, length_push, length-set, get_or_default, take_more, take_all, get_or-map}
 use Rattle.std.proofs.lemmas.List.Elements.{All-nil, All-head, All-tail, All-weaker, All-push, Contains-push, Contains-append_left}
 use Rattle.std.proofs.lemmas.List.Sums.{AllPass-from_list_all, position_or_len_is}
 use Rattle.std.proofs.lemmas.List.Folds.{list_any_more, list_any_kept}
@@ -289,16 +289,6 @@ unfolding is_contradiction
 some-term problem [] genuine = let no : false ≡ true = genuine in cc
 some-term problem (t ∷ terms) genuine = omega arith
 
--- the empty places
-pub none-pushed : (places : List (List ℕ)) (b : ℕ) → ((c : ℕ) → get_or places c [] ≡ []) → get_or (places ++ [] ∷ []) b [] ≡ []
-none-pushed places b none = elim (cases_lt b (length places)) [
-  | inl below ↦ get_or_append_left places ([] ∷ []) [] b below ∙ none b
-  | inr past ↦ elim (cases_eq b (length places)) [
-    | inl here ↦ rw here (get_or_at places [] [] [] (length places) refl)
-    | inr behind ↦ get_or_past (places ++ [] ∷ []) b [] (omega (arith, length_push places []))
-  ]
-]
-
 -- ---- the terms of the program
 abbrev pub no_term : rust.Term
 no_term = record { input = record { 0 = 0 }; winner = record { 0 = 0 }; loser = record { 0 = 0 } }
@@ -312,3 +302,13 @@ certificate-at certificates k d within = get_or-map (λ (c : Contradiction). ter
 
 pub class-at : (classes : List ClassId) (k : ℕ) → k < length classes → slice_index (class_numbers classes) k ≡ (get_or classes k (record { 0 = 0 })).0
 class-at classes k within = get_or-map (λ (class : ClassId). class.0) classes k (record { 0 = 0 }) 0 within
+
+-- the place of the last class of a prefix
+pub last_place-within : (problem : Problem) (classes : List ClassId) (widest k : ℕ) (places : List (List ℕ)) → k + 1 ≡ length classes → IsPrefix problem (class_numbers classes) → IsLaidOut problem widest places
+    → k * widest + (get_or classes k (record { 0 = 0 })).0 < length places
+last_place-within problem classes widest k places last prefix laid_out =
+    let within : k < length classes = omega arith in
+    let long : length (class_numbers classes) ≡ length classes = length-map classes (λ (class : ClassId). class.0) in
+    let input : k < length problem.inputs = omega (arith, long, prefix.short) in
+    let class : slice_index (class_numbers classes) k < widest = omega (arith, long, prefix.within k (omega (arith, long)), laid_out.wide k input) in
+    omega (arith, class-at classes k within, place-within (length problem.inputs) widest k (slice_index (class_numbers classes) k) input class, laid_out.long)

@@ -31,30 +31,12 @@ deed_more f g (x ∷ xs) (suc k) d h =
     let e : suc k + 1 ≡ suc (k + 1) = omega arith in
     rw e (ap (λ (l : List _). f (g x) ++ l) (deed_more f g xs k d (omega arith)) ∙ sym (append_assoc (f (g x)) (flat_map f (map g (take k xs))) (f (g (get_or xs k d)))))
 
-list_more : {X Y Z : Type 0} (f : Y → List Z) (h : X → List Y) (xs : List X) (k : ℕ) (d : X) → k < length xs → flat_map f (flat_map h (take (k + 1) xs)) ≡ flat_map f (flat_map h (take k xs)) ++ flat_map f (h (get_or xs k d))
-list_more f h [] k d below = absurd (omega arith)
-list_more f h (x ∷ xs) zero d below = ap (flat_map f) (append-nil (h x))
-list_more f h (x ∷ xs) (suc k) d below =
-    let e : suc k + 1 ≡ suc (k + 1) = omega arith in
-    rw e (
-    flat_map-append f (h x) (flat_map h (take (k + 1) xs))
-    ∙ ap (λ (l : List _). flat_map f (h x) ++ l) (list_more f h xs k d (omega arith))
-    ∙ sym (append_assoc (flat_map f (h x)) (flat_map f (flat_map h (take k xs))) (flat_map f (h (get_or xs k d))))
-    ∙ ap (λ (l : List _). l ++ flat_map f (h (get_or xs k d))) (sym (flat_map-append f (h x) (flat_map h (take k xs)))))
-
 -- with one deed more
 pub deed-collected : {X Y Z : Type 0} (f : Y → List Z) (g : X → Y) (xs : List X) (k : ℕ) (x : X) (start old new : List Z) → k < length xs → x ≡ get_or xs k x → old ≡ start ++ flat_map f (map g (take k xs)) → new ≡ old ++ f (g x) → new ≡ start ++ flat_map f (map g (take (k + 1) xs))
 deed-collected f g xs k x start old new below here before added =
     added ∙ ap (λ (l : List _). l ++ f (g x)) before ∙ append_assoc start (flat_map f (map g (take k xs))) (f (g x))
     ∙ ap (λ (y : _). start ++ (flat_map f (map g (take k xs)) ++ f (g y))) here
     ∙ ap (λ (l : List _). start ++ l) (sym (deed_more f g xs k x below))
-
--- with one list of deeds more
-pub list-collected : {X Y Z : Type 0} (f : Y → List Z) (h : X → List Y) (xs : List X) (k : ℕ) (x : X) (old new : List Z) → k < length xs → x ≡ get_or xs k x → old ≡ flat_map f (flat_map h (take k xs)) → new ≡ old ++ flat_map f (h x) → new ≡ flat_map f (flat_map h (take (k + 1) xs))
-list-collected f h xs k x old new below here before added =
-    added ∙ ap (λ (l : List _). l ++ flat_map f (h x)) before
-    ∙ ap (λ (y : _). flat_map f (flat_map h (take k xs)) ++ flat_map f (h y)) here
-    ∙ sym (list_more f h xs k x below)
 
 -- a list that is sorted by a key has sorted keys
 pub sorted-keys : {X : Type 0} (key : X → List ℕ) (xs : List X) → IsSortedBy (λ x y. is_lt (order (key x) (key y))) xs → IsSorted order (map key xs)

@@ -20,9 +20,6 @@ pub position-map : {X Y : Type 0} (p : Y → Bool) (f : X → Y) (xs : List X) �
 position-map p f [] = refl
 position-map p f (x ∷ xs) = ap (λ n. cond (not (p (f x))) (1 + n) 0) (position-map p f xs)
 
-pub position-le : {X : Type 0} (p : X → Bool) (xs : List X) → position_or_len p xs ≤ length xs
-position-le p xs = prefix_len-le-length (λ x. not (p x)) xs
-
 -- a place as an option
 pub placed : (r : Option ℕ) (p n : ℕ) → r ≡ cond (ltb p n) (Some p) None → p ≤ n → IfSome r (λ k. (k ≡ p) × (k < n)) × IfNone r (p ≡ n)
 placed r p n e h = by (ltb p n) (ltb-true p n) (ltb-false p n) e
@@ -65,9 +62,6 @@ first-kept problem certificates cut other h = by (list_any (λ terms. refutes te
           ∙ ap (λ b. cond b (length certificates + cond (refutes terms other) 0 1) (first_refuting certificates other)) (ne_eqb (first_refuting certificates other) (length certificates) (λ e. omega (arith, e))),
       omega (arith, length-append certificates (terms ∷ [])),
     )
-
-pub IsCertified-none : (problem : Problem) → IsCertified problem [] [] []
-IsCertified-none problem = record { listed = refl; named = refl; within = All-nil (λ prefix. first_refuting [] prefix < 0) }
 
 map_same : {X Y : Type 0} (f g : X → Y) (xs : List X) → All (λ x. f x ≡ g x) xs → map f xs ≡ map g xs
 map_same f g [] h = refl

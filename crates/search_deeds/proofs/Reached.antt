@@ -164,10 +164,6 @@ children-none problem (q ∷ opened) =
 abbrev choices_collected : List Deed → List (List ℕ)
 choices_collected deeds = map (λ language. language.0) (languages_in deeds)
 
-map-language-append : (xs ys : List (List ℕ × List ℕ)) → map (λ (l : List ℕ × List ℕ). l.0) (xs ++ ys) ≡ map (λ l. l.0) xs ++ map (λ l. l.0) ys
-map-language-append [] ys = refl
-map-language-append (x ∷ xs) ys = ap (λ (l : List (List ℕ)). x.0 ∷ l) (map-language-append xs ys)
-
 by_fate : (p : List ℕ) (deeds : List Deed) → times p (map (λ deed. deed.prefix) deeds) ≡ times p (opened_in deeds) + (times p (choices_collected deeds) + times p (cuts_in deeds))
 by_fate p [] = refl
 by_fate p (deed ∷ deeds) =
@@ -182,10 +178,6 @@ by_fate p (deed ∷ deeds) =
     by (Cut terms) = omega (arith, times-cons p deed.prefix (cuts_in deeds))
 
 -- what is told of a prefix is true of it
-some_or_none : (n : ℕ) → (n ≡ 0) ⊎ (0 < n)
-some_or_none zero = inl refl
-some_or_none (suc n) = inr (omega arith)
-
 times-here : (p x : List ℕ) (xs : List (List ℕ)) → 0 < times p (x ∷ xs) → (p ≡ x) ⊎ (0 < times p xs)
 times-here p x xs h = elim (cases_Bool (same p x)) [
   | inl here ↦ inl (same-true p x here)

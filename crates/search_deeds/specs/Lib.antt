@@ -3,3 +3,4 @@ pub mod Gathered
 pub mod Indexed
 pub mod Sieved
 pub mod Places
+pub mod Made

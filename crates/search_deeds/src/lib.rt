@@ -15,6 +15,7 @@ mod deed;
 mod gathering;
 mod index;
 mod lexicographic;
+mod ready;
 mod shared;
 mod sieve;
 
@@ -22,5 +23,6 @@ pub use certified::place_of;
 pub use deed::{Deed, Deeds, Fate};
 pub use gathering::gather;
 pub use index::{Index, widest};
+pub use ready::Ready;
 pub use shared::deeds_go;
 pub use sieve::{bits_of, with_choice};

@@ -2,6 +2,7 @@
 use Rattle.std.specs.Prelude.{map, All}
 use Rattle.refutation.specs.Typologies.{certificates_of}
 use Rattle.search_deeds.specs.Gathered.{deeds_in}
+use Rattle.search_deeds.specs.Made.{AreMade}
 use Rattle.search_machine.specs.Kept.{IsKept}
 use Rattle.search_machine.specs.Machine.{State}
 use Rattle.search_machine.specs.Seen.{HasLeast, Progress, hands_seen}
@@ -22,3 +23,4 @@ progress_of machine = record { problem = machine.p.now; places = machine.places;
 pub record IsSound (machine : Inside) : Type 0 where
   pub kept : IsKept machine.p.now (state_in machine)
   pub least : All (HasLeast machine.p.now) machine.hands.items
+  pub made : AreMade machine.p.now machine.ready

@@ -6,16 +6,17 @@ ghost use Rattle.refutation.specs.Typologies.{certificates_of};
 ghost use Rattle.violation_profiles.specs.WellFormed.{IsPrefix};
 ghost use Rattle.search_deeds.specs.Deeds.{children, opened_by};
 ghost use Rattle.search_deeds.specs.Gathered.{deeds_in, fate_of};
+ghost use Rattle.search_deeds.specs.Made.{AreMade};
 ghost use Rattle.search_machine.specs.Kept.{IsTrueMark};
 ghost use Rattle.search_machine.specs.Machine.{IsFate, judged, judging, passing, store_with, in_hand};
 ghost use Rattle.search_machine.specs.Seen.{HasLeast, IsLeastFor, hand_seen, mark_seen};
 ghost use Rattle.search_machine.specs.Held.{IsKnown, IsOpenable, IsSettled};
 
-use crate::finding::{Finding, judge};
+use crate::finding::judge_with;
 use crate::queue::Queue;
 use erc_vectors::{List, NoMemory, Strata};
-use refutation::{Contradiction, Prefix, refutes};
-use search_deeds::{Deed, Deeds, Fate};
+use refutation::{Contradiction, Finding, Prefix, refutes};
+use search_deeds::{Deed, Deeds, Fate, Ready};
 use std::alloc::Global;
 use violation_profiles::Problem;
 
@@ -72,11 +73,14 @@ pub(crate) fn pass(hand: &mut Option<Hand>, store: &[Contradiction]) -> Result<(
 pub(crate) fn learn(
     alloc: Global,
     p: &Problem,
+    ready: &mut Ready,
     hand: &mut Option<Hand>,
     store: &mut List<Contradiction>,
     places: usize,
 ) -> Result<(), NoMemory>
-    requires { IfSome hand.old (λ held. IsPrefix p.now held.prefix) }
+    requires prefix { IfSome hand.old (λ held. IsPrefix p.now held.prefix) }
+    requires made { AreMade p.now ready.old }
+    ensures made { AreMade p.now ready.new }
     ensures seen { OnOk result (option_map hand_seen hand.new ≡ option_map (judging p.now) (option_map hand_seen hand.old)) }
     ensures store { OnOk result (IfSome hand.old (λ held. certificates_of store.new ≡ store_with p.now places (certificates_of store.old) held.prefix)) }
     ensures genuine { OnOk result (IfSome hand.old (λ held. IsTrueMark p.now held.prefix (judged p.now held.prefix))) }
@@ -87,7 +91,7 @@ pub(crate) fn learn(
     let Some(held) = hand else {
         return Ok(());
     };
-    match judge(alloc, p, held.prefix.as_slice())? {
+    match judge_with(alloc, p, ready, held.prefix.as_slice())? {
         Finding::Holds(strata) => held.mark = Mark::Open(strata),
         Finding::Refuted(found) => {
             if store.len() < places {

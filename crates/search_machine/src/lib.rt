@@ -16,8 +16,10 @@ mod step;
 #[cfg(test)]
 mod tests;
 
+pub use finding::{fate_for, judge, judge_with};
 pub use laws::{
     each_choice_stands_once, facts_are_kept, finished_deeds_tell_all, finished_where_empty,
 };
 pub use machine::{Machine, WORKER_LIMIT};
+pub use refutation::Finding;
 pub use step::{Step, StepRefused};

@@ -16,7 +16,7 @@ use crate::queue::Queue;
 use crate::step::{Step, StepRefused};
 use erc_vectors::{List, NoMemory};
 use refutation::{Contradiction, Prefix};
-use search_deeds::Deeds;
+use search_deeds::{Deeds, Ready};
 use std::alloc::Global;
 use std::marker::Model;
 use violation_profiles::Problem;
@@ -48,6 +48,7 @@ pub struct Machine<'p> {
     deeds: Vec<Deeds>,
     store: List<Contradiction>,
     learns: u64,
+    ready: Ready,
 }
 
 impl<'p> Model for Machine<'p> {
@@ -66,10 +67,8 @@ impl<'p> Model for Machine<'p> {
 fn put<T: Drop>(items: &mut Vec<T>, item: T) -> Result<(), NoMemory>
     ensures { OnOk result (items.new.items ≡ items.old.items ++ item ∷ []) }
 {
-    match items.push(item) {
-        Ok(()) => Ok(()),
-        Err(_) => Err(NoMemory),
-    }
+    items.push(item)?;
+    Ok(())
 }
 
 fn no_prefixes(alloc: Global, workers: usize) -> Result<Vec<Queue>, NoMemory>
@@ -198,6 +197,7 @@ impl<'p> Machine<'p> {
             deeds: no_deeds(alloc, workers)?,
             store: List::new(alloc),
             learns: 0,
+            ready: Ready::new(alloc, p)?,
         })
     }
 
@@ -333,6 +333,7 @@ impl<'p> Machine<'p> {
         learn(
             self.alloc,
             self.p,
+            &mut self.ready,
             &mut self.hands[w],
             &mut self.store,
             self.places,

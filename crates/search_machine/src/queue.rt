@@ -53,10 +53,8 @@ impl Queue {
         ensures ok { OnOk result (self.new ≡ self.old ++ prefix ∷ []) }
         ensures refused { OnErr result (self.new ≡ self.old) }
     {
-        match self.prefixes.push_back(prefix) {
-            Ok(()) => Ok(()),
-            Err(_) => Err(NoMemory),
-        }
+        self.prefixes.push_back(prefix)?;
+        Ok(())
     }
 
     /// Puts the front of this queue behind the others of another one. Where there is no memory for it, both stay as they were.
@@ -66,9 +64,7 @@ impl Queue {
         ensures refused { OnErr result (self.new ≡ self.old) }
         ensures other_refused { OnErr result (other.new ≡ other.old) }
     {
-        if other.prefixes.reserve(1).is_err() {
-            return Err(NoMemory);
-        }
+        other.prefixes.reserve(1)?;
         if let Some(prefix) = self.prefixes.pop_front() {
             other.prefixes.push_back_reserved(prefix);
         }
@@ -80,10 +76,8 @@ impl Queue {
         ensures ok { OnOk result (self.new ≡ self.old ++ other) }
         ensures refused { OnErr result (self.new ≡ self.old) }
     {
-        match self.prefixes.append(&mut other.prefixes) {
-            Ok(()) => Ok(()),
-            Err(_) => Err(NoMemory),
-        }
+        self.prefixes.append(&mut other.prefixes)?;
+        Ok(())
     }
 
     pub(crate) fn len(&self) -> usize

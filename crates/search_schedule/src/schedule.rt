@@ -22,10 +22,7 @@ fn make(machine: &mut Machine, step: Step) -> Result<(), NoMemory>
     ensures places { machine.new.places ≡ machine.old.places }
     ensures learns { OnOk result (machine.new.learns ≡ (if is_learn step then next_number machine.old.learns else machine.old.learns)) }
 {
-    match machine.step(step) {
-        Ok(()) => Ok(()),
-        Err(_) => Err(NoMemory),
-    }
+    machine.step(step).map_err(|_| NoMemory)
 }
 
 /// The machine of the search of a problem, with 1 to 64 workers and at most 4,096 places, after all steps of the schedule of a

@@ -5,26 +5,15 @@ use Rattle.std.proofs.lemmas.List.{length-map, get_or_read, nil_from_length}
 use Rattle.ot_base.specs.declared.tableau.ClassId.{ClassId}
 use Rattle.refutation.specs.Prefixes.{class_numbers}
 use Rattle.search_deeds.specs.Indexed.{HoldsRefuting}
-use Rattle.search_deeds.proofs.Choices.{place-within, class-at, HoldsRefuting-index, HoldsRefuting-none}
+use Rattle.search_deeds.proofs.Choices.{class-at, last_place-within, HoldsRefuting-index, HoldsRefuting-none}
 use Rattle.search_deeds.proofs.Sieving.{AreMarks-none}
 use Rattle.search_deeds.proofs.index.Index.bucket_for.Goals as goal
 
 pub index-requires : goal.index-requires
 index-requires c =
-    let problem = c.args.p.now in
     let classes = c.args.prefix.now in
-    let k = length classes - 1 in
     let some = eqb-false (length classes) 0 (sym c.is_empty.ensures ∙ c.if-is_empty.false) in
-    let same = class-at classes k (omega (arith, some)) in
-    let long = length-map classes (λ (class : ClassId). class.0) in
-    omega (
-      arith,
-      same,
-      some,
-      place-within (length problem.inputs) c.args.self.now.widest k (slice_index (class_numbers classes) k) (omega (arith, some))
-          (omega (arith, c.requires.prefix.within k (omega (arith, some)), c.requires.laid_out.wide k (omega (arith, some)))),
-      c.args.self.now.places.ok.0,
-    )
+    omega (arith, last_place-within c.args.p.now classes c.args.self.now.widest (length classes - 1) c.args.self.now.places.items (omega (arith, some)) c.requires.prefix c.requires.laid_out, c.args.self.now.places.ok.0)
 
 pub returns-then-is_empty-clause-refuting : goal.returns-then-is_empty-clause-refuting
 returns-then-is_empty-clause-refuting c = λ certificates index genuine shortest.
@@ -41,13 +30,7 @@ returns-clause-refuting c = λ certificates index genuine shortest.
     let long : length (class_numbers classes) ≡ suc k = omega (arith, some, length-map classes (λ (class : ClassId). class.0)) in
     let at = k * c.args.self.now.widest + slice_index (class_numbers classes) k in
     let same = class-at classes k (omega (arith, some)) in
-    let within : k * c.args.self.now.widest + (get_or classes k (record { 0 = 0 })).0 < length places = omega (
-      arith,
-      same,
-      place-within (length problem.inputs) c.args.self.now.widest k (slice_index (class_numbers classes) k) (omega (arith, some))
-          (omega (arith, c.requires.prefix.within k (omega (arith, some)), c.requires.laid_out.wide k (omega (arith, some)))),
-      c.requires.laid_out.long,
-    ) in
+    let within = last_place-within problem classes c.args.self.now.widest k places (omega (arith, some)) c.requires.prefix c.requires.laid_out in
     let found : c.as_slice.result.now ≡ slice_index_or places at [] =
     c.as_slice.ensures ∙ get_or_read places _ c.index.result.now within c.index.ensures [] ∙ ap (λ (class : ℕ). slice_index_or places (k * c.args.self.now.widest + class) []) (sym same) in
     subst (HoldsRefuting certificates (class_numbers classes)) (sym found)
@@ -58,21 +41,10 @@ returns-then-is_empty-clause-marks c = λ certificates marked. AreMarks-none cer
 
 pub index-requires-2 : goal.index-requires-2
 index-requires-2 c =
-    let problem = c.args.p.now in
     let classes = c.args.prefix.now in
-    let k = length classes - 1 in
     let some = eqb-false (length classes) 0 (sym c.is_empty.ensures ∙ c.if-is_empty.false) in
-    let same = class-at classes k (omega (arith, some)) in
-    let long = length-map classes (λ (class : ClassId). class.0) in
-    omega (
-      arith,
-      same,
-      some,
-      place-within (length problem.inputs) c.args.self.now.widest k (slice_index (class_numbers classes) k) (omega (arith, some))
-          (omega (arith, c.requires.prefix.within k (omega (arith, some)), c.requires.laid_out.wide k (omega (arith, some)))),
-      c.args.self.now.places.ok.0,
-      c.args.self.now.marks.ok.0,
-    )
+    let within = last_place-within c.args.p.now classes c.args.self.now.widest (length classes - 1) c.args.self.now.places.items (omega (arith, some)) c.requires.prefix c.requires.laid_out in
+    omega (arith, within, c.requires.as_long, c.args.self.now.places.ok.0, c.args.self.now.marks.ok.0)
 
 pub returns-clause-marks : goal.returns-clause-marks
 returns-clause-marks c = λ certificates marked.
@@ -82,16 +54,8 @@ returns-clause-marks c = λ certificates marked.
     let marks = c.args.self.now.marks.items in
     let k = length classes - 1 in
     let some = eqb-false (length classes) 0 (sym c.is_empty.ensures ∙ c.if-is_empty.false) in
-    let long : length (class_numbers classes) ≡ suc k = omega (arith, some, length-map classes (λ (class : ClassId). class.0)) in
     let at : ℕ = k * c.args.self.now.widest + (get_or classes k (record { 0 = 0 })).0 in
-    let same = class-at classes k (omega (arith, some)) in
-    let within : at < length places = omega (
-      arith,
-      same,
-      place-within (length problem.inputs) c.args.self.now.widest k (slice_index (class_numbers classes) k) (omega (arith, some))
-          (omega (arith, c.requires.prefix.within k (omega (arith, some)), c.requires.laid_out.wide k (omega (arith, some)))),
-      c.requires.laid_out.long,
-    ) in
+    let within : at < length places = last_place-within problem classes c.args.self.now.widest k places (omega (arith, some)) c.requires.prefix c.requires.laid_out in
     let place_list : c.as_slice.result.now ≡ slice_index_or places at [] = c.as_slice.ensures ∙ get_or_read places _ c.index.result.now within c.index.ensures [] in
     let mark_list : c.as_slice-2.result.now ≡ slice_index_or marks at [] = c.as_slice-2.ensures ∙ get_or_read marks _ c.index-2.result.now (omega (arith, within)) c.index-2.ensures [] in
     rw (place_list, mark_list) (marked.each at)

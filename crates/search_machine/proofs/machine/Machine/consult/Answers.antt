@@ -12,7 +12,7 @@ invariant_of-self c =
     let i = c.self.inside in
     let r = consults i.p.now i.queues.items i.hands.items i.outboxes.items (map deeds_in i.deeds.items) (certificates_of i.store) c.args.w c.index_mut.result.now c.pass.new.hand c.pass.result
     (rw (← c.self.view_is) at c.requires) c.index_mut.ensures.value (rw c.as_slice.ensures at c.pass.ensures.seen) c.pass.ensures.least c.pass.ensures.refused c.self.invariant.kept c.self.invariant.least in
-    record { kept = r.kept; least = r.least }
+    record { kept = r.kept; least = r.least; made = c.self.invariant.made }
 
 pub returns-clause-made : goal.returns-clause-made
 returns-clause-made c =

@@ -13,7 +13,7 @@ invariant_of-self-2 c =
     let i = c.self.inside in
     let r = learns i.p.now i.places i.queues.items i.hands.items i.outboxes.items (map deeds_in i.deeds.items) (certificates_of i.store) (certificates_of c.learn.new.store) c.args.w c.index_mut.result.now c.learn.new.hand
     (rw (← c.self.view_is) at c.requires) c.index_mut.ensures.value c.in_ok-learn.ensures.seen c.in_ok-learn.ensures.store c.in_ok-learn.ensures.genuine c.in_ok-learn.ensures.least c.self.invariant.kept c.self.invariant.least in
-    record { kept = r.kept; least = r.least }
+    record { kept = r.kept; least = r.least; made = c.learn.ensures.made }
 
 pub returns-clause-made : goal.returns-clause-made
 returns-clause-made c =

@@ -9,7 +9,7 @@ pub invariant_of-result : goal.invariant_of-result
 invariant_of-result c =
     let r = starts c.args.p.now c.args.workers c.in_ok-first_queues.field-0.items c.in_ok-empty_hands.field-0.items c.in_ok-no_prefixes.field-0.items c.in_ok-no_deeds.field-0.items c.new.result c.requires.some
     c.in_ok-first_queues.ensures c.in_ok-empty_hands.ensures c.in_ok-no_prefixes.ensures c.in_ok-no_deeds.ensures c.new.ensures in
-    record { kept = r.kept; least = r.least }
+    record { kept = r.kept; least = r.least; made = c.in_ok-new.ensures }
 
 pub returns : goal.returns
 returns c =
