@@ -1,3 +1,16 @@
 pub mod Below
 pub mod Walking
+pub mod Lower
 pub mod Whole
+pub mod LoneRuns
+pub mod Tallies
+pub mod Levels
+pub mod Lone
+pub mod LoneLevels
+pub mod LoneSearch
+pub mod Names
+pub mod LoneCount
+pub mod LoneCuts
+pub mod LoneHeld
+pub mod Counted
+pub mod Holding

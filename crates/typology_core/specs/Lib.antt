@@ -1,3 +1,5 @@
 pub mod Below
 pub mod Walked
-pub mod Made
+pub mod Rounds
+pub mod Learned
+pub mod Judged

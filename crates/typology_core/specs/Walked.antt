@@ -1,6 +1,6 @@
 -- A walk through the prefixes of a problem, depth first: the prefix where it stands, and what it found so far.
-use Rattle.std.specs.Prelude.{◌≡◌, ℕ, ◌+◌, ◌<◌, true, false, List, [], ◌∷◌, ◌++◌, map, length, take, All}
-use Rattle.ot_theory.specs.Hierarchies.{IsLeastHierarchy}
+use Rattle.std.specs.Prelude.{◌≡◌, ℕ, ◌+◌, ◌<◌, ◌≤◌, true, false, List, [], ◌∷◌, ◌++◌, map, length, take, All, Option, IfSome, IfNone}
+use Rattle.ot_theory.specs.Hierarchies.{IsAtMostEvery, IsLeastHierarchy}
 use Rattle.ot_theory.specs.Problems.{Problem}
 use Rattle.ot_theory.specs.Languages.{conditions_of, refuted, terms_of}
 use Rattle.violation_profiles.specs.WellFormed.{IsPrefix}
@@ -10,7 +10,7 @@ use Rattle.refutation.specs.Typologies.{certificates_of, cuts_of, found_of}
 use Rattle.refutation.specs.declared.typology.Cut.{Cut}
 use Rattle.refutation.specs.declared.typology.Language.{Language}
 use Rattle.typology_core.specs.Below.{cuts_below, languages_below}
-use Rattle.search_deeds.specs.Gathered.{AreGenuine, IsCertified, first_refuting}
+use Rattle.search_deeds.specs.Gathered.{AreGenuine, IsCertified}
 use Rattle.search_deeds.specs.Places.{IsIndexOf}
 use Rattle.typology_core.specs.declared.walk.Found.{Found}
 use Rattle.typology_core.specs.declared.walk.Path.{Path}
@@ -56,6 +56,18 @@ pub record AreMore (new_cuts new_languages : List (List ℕ)) (found more : Foun
 -- with all that extend a prefix by at most n classes
 abbrev pub AreAllBelow : Problem → ℕ → List ℕ → Found → Found → Type 0
 AreAllBelow problem n prefix found more = AreMore (cuts_below problem n prefix) (languages_below problem n prefix) found more
+
+-- The least hierarchy of a prefix where it is not refuted, and none where it is.
+pub record IsJudged (problem : Problem) (prefix : List ℕ) (hierarchy : Option (List ℕ)) : Type 0 where
+  pub held : IfSome hierarchy (λ levels. refuted problem prefix ≡ false)
+  pub least : IfSome hierarchy (λ levels. IsLeastHierarchy problem.constraints (conditions_of problem prefix) levels)
+  pub refuted : IfNone hierarchy (refuted problem prefix ≡ true)
+
+-- A hierarchy that is at most every one that satisfies what a prefix asks.
+pub record IsLower (problem : Problem) (prefix : List ℕ) (levels : List ℕ) : Type 0 where
+  pub width : length levels ≡ problem.constraints
+  pub from_one : All (λ level. 1 ≤ level) levels
+  pub least : IsAtMostEvery problem.constraints (conditions_of problem prefix) levels
 
 -- The prefix is neither refuted nor a full choice, and nothing is found yet.
 pub record IsToOpen (problem : Problem) (path : Path) (found same : Found) : Type 0 where

@@ -4,15 +4,23 @@
 //! It keeps them in the order in which it learns them, as long as there are places. A contradiction refutes cuts of one length
 //! alone, that of the cut for which it was found. So the search learns the certificates by length, and among those of a length
 //! in the order of the list; one for which there is a place is learnt at the first cut that names it alone, and one for which
-//! there is none at each cut that names it.
+//! there is none at each cut that names it. How many prefixes hold is told by the cuts too: the prefixes of a length are the
+//! children of those that hold of the length before, and those among them that are no cuts hold.
+
+ghost use Rattle.std.specs.Prelude.{◌≡◌, ◌≤◌, ◌<◌, ◌+◌, ◌^◌, ◌-◌, ◌++◌, [], ◌∷◌, ℕ, List, IfOk, length, map, min};
+ghost use Rattle.ot_theory.specs.Languages.{languages};
+ghost use Rattle.ot_theory.specs.Refutations as theory;
+ghost use Rattle.ot_base.specs.declared.limits.TheConstants.{INPUT_LIMIT};
+ghost use Rattle.refutation.specs.Typologies.{cuts_of};
+ghost use Rattle.search_deeds.specs.Gathered.{AreNamed};
+ghost use Rattle.typology_core.specs.Learned.{all_named, cuts_judged, held_count, named_in, of_length, total_of, with_one};
+ghost use Rattle.typology_core.specs.Judged.{IsCount, learns_of, named_of};
 
 use erc_vectors::NoMemory;
-use ot_base::INPUT_LIMIT;
+use ot_base::InId;
 use refutation::Cut;
 use std::alloc::Global;
-
-/// A cut has from 0 to 1,000 classes.
-const LENGTHS: usize = INPUT_LIMIT + 1;
+use violation_profiles::Problem;
 
 /// The cuts that name one certificate, all of one length.
 #[derive(Clone, Copy)]
@@ -21,67 +29,140 @@ struct Named {
     cuts: u64,
 }
 
-/// How often demotion judges a prefix, with so many places for contradictions, where so many prefixes hold, and these are the
-/// cuts, which name so many certificates. It stays at 2^64 - 1 once it is there.
+impl Named {
+    /// With one cut more.
+    fn with(self, cut: &Cut) -> Named
+        requires { self.cuts < 2 ^ 64 - 1 }
+        ensures { (result.length, result.cuts) ≡ with_one (self.length, self.cuts) (length cut.now.prefix) }
+    {
+        if self.cuts == 0 {
+            Named {
+                length: cut.prefix.as_slice().len(),
+                cuts: 1,
+            }
+        } else {
+            Named {
+                length: self.length,
+                cuts: self.cuts + 1,
+            }
+        }
+    }
+}
+
+/// How often demotion judges a prefix, with so many places for contradictions, where these are the cuts of the problem, which name
+/// so many certificates. It stays at 2^64 - 1 once it is there.
 pub(crate) fn learns(
     alloc: Global,
-    held: u64,
+    p: &Problem,
     cuts: &[Cut],
     certificates: usize,
     places: usize,
-) -> Result<u64, NoMemory> {
+) -> Result<u64, NoMemory>
+    requires cuts { cuts_of cuts.now ≡ map (λ cut. (cut, theory.certificate_named p.now cut)) (theory.cuts p.now) }
+    requires certificates { certificates ≡ length (theory.certificates p.now) }
+    requires named { AreNamed certificates cuts.now }
+    requires few { length (languages p.now) < 2 ^ 64 }
+    ensures { IfOk result (λ learns. learns ≡ min (held_count p.now + cuts_judged places (length p.now.inputs) (named_in p.now)) (2 ^ 64 - 1)) }
+{
     let named = named_by(alloc, cuts, certificates)?;
-    let mut left = places_by_length(&named, places);
-    let mut learns = held;
-    for certificate in &named {
-        let times = judged(&mut left, certificate);
-        learns = learns.saturating_add(times);
-    }
-    Ok(learns)
-}
-
-/// How often demotion judges a cut that names a certificate, which takes a place among those left for its length, if there is one.
-fn judged(left: &mut [usize; LENGTHS], certificate: &Named) -> u64 {
-    let length = certificate.length.min(INPUT_LIMIT);
-    if left[length] == 0 {
-        return certificate.cuts;
-    }
-    left[length] -= 1;
-    1
+    let held = held(p, named.as_slice());
+    Ok(judged(held, named.as_slice(), p.inputs(), places))
 }
 
 /// The cuts that name each certificate.
-fn named_by(alloc: Global, cuts: &[Cut], certificates: usize) -> Result<Vec<Named>, NoMemory> {
-    let mut named = Vec::new(alloc);
-    for _ in 0..certificates {
-        named.push(Named { length: 0, cuts: 0 })?;
-    }
+fn named_by(alloc: Global, cuts: &[Cut], certificates: usize) -> Result<Vec<Named>, NoMemory>
+    requires { AreNamed certificates cuts.now }
+    ensures { IfOk result (λ named. named_of named.items ≡ all_named (cuts_of cuts.now) certificates) }
+{
+    prove!(cuts.len() <= usize::MAX);
+    let mut named = vec![in alloc; Named { length: 0, cuts: 0 }; certificates]?;
     for cut in cuts {
-        add_cut(&mut named, cut);
+        named[cut.certificate] = named[cut.certificate].with(cut);
     }
     Ok(named)
 }
 
-fn add_cut(named: &mut [Named], cut: &Cut) {
-    if cut.certificate < named.len() {
-        let certificate = &mut named[cut.certificate];
-        certificate.length = cut.prefix.as_slice().len();
-        certificate.cuts = certificate.cuts.saturating_add(1);
+/// How many prefixes hold. It is 2^64 - 1 at most.
+fn held(p: &Problem, named: &[Named]) -> u64
+    requires named { named_of named.now ≡ named_in p.now }
+    requires cuts { length (theory.cuts p.now) < 2 ^ 64 }
+    requires few { length (languages p.now) < 2 ^ 64 }
+    ensures { result ≡ min (held_count p.now) (2 ^ 64 - 1) }
+{
+    let mut held: u128 = 0;
+    let mut reached: u128 = 1;
+    for length in 0..p.inputs() {
+        let here = reached - cuts_of_length(named, length);
+        held += here;
+        reached = here * p.classes(InId(length as u32)) as u128;
+    }
+    held += reached - cuts_of_length(named, p.inputs());
+    held.min(u64::MAX as u128) as u64
+}
+
+/// The number of cuts of a length.
+fn cuts_of_length(named: &[Named], length: usize) -> u128
+    ensures { result ≡ total_of (of_length length (named_of named.now)) }
+{
+    let mut cuts = 0;
+    for certificate in named {
+        if certificate.length == length {
+            cuts += certificate.cuts as u128;
+        }
+    }
+    cuts
+}
+
+/// How often demotion has judged a prefix, and how many places are left.
+#[derive(Clone, Copy)]
+struct Count {
+    learns: u64,
+    left: usize,
+}
+
+impl Count {
+    /// With the cuts that name one certificate, which takes a place if there is one.
+    fn with(self, cuts: u64) -> Count
+        ensures { (held places : ℕ) (before : List ℕ) → IsCount held places before self → IsCount held places (before ++ cuts ∷ []) result }
+    {
+        if self.left == 0 {
+            Count {
+                learns: self.learns.saturating_add(cuts),
+                left: 0,
+            }
+        } else {
+            Count {
+                learns: self.learns.saturating_add(1),
+                left: self.left - 1,
+            }
+        }
+    }
+
+    /// With the cuts of a length.
+    fn with_length(self, named: &[Named], length: usize) -> Count
+        ensures { (held places : ℕ) (before : List ℕ) → IsCount held places before self → IsCount held places (before ++ learns_of length named.now) result }
+    {
+        let mut count = self;
+        for certificate in named {
+            if certificate.length == length {
+                count = count.with(certificate.cuts);
+            }
+        }
+        count
     }
 }
 
-/// How many places are left for the certificates of each length, after all those of shorter cuts.
-fn places_by_length(named: &[Named], places: usize) -> [usize; LENGTHS] {
-    let mut left = [0usize; LENGTHS];
-    for certificate in named {
-        let length = certificate.length.min(INPUT_LIMIT);
-        left[length] = left[length].saturating_add(1);
+/// How often demotion judges the cuts that name these certificates, and so many prefixes besides.
+fn judged(held: u64, named: &[Named], longest: usize, places: usize) -> u64
+    requires { longest ≤ INPUT_LIMIT }
+    ensures { result ≡ min (held + cuts_judged places longest (named_of named.now)) (2 ^ 64 - 1) }
+{
+    let mut count = Count {
+        learns: held,
+        left: places,
+    };
+    for length in 0..longest + 1 {
+        count = count.with_length(named, length);
     }
-    let mut free = places;
-    for length in 0..LENGTHS {
-        let certificates = left[length];
-        left[length] = free;
-        free = free.saturating_sub(certificates);
-    }
-    left
+    count.learns
 }

@@ -3,20 +3,22 @@
 //!
 //! The search of one worker walks through the prefixes of choices depth first and in class order, so that languages, cuts and
 //! certificates come in their order and no prefix waits; and it counts how often demotion judges a prefix in a search that
-//! opens the shorter ones first and keeps what it learns of refuted ones. A typology is all choices that some ranking makes
-//! optimal (factorial typology, after Prince and Smolensky), each with its least hierarchy (Tesar and Smolensky, Learnability in
-//! Optimality Theory, 2000), and all shortest refuted prefixes, each with a contradiction that shows it (Prince, Entailed
-//! Ranking Arguments, 2002). The cuts, the certificates and the walk are this project's own.
+//! opens the shorter ones first and keeps what it learns of refuted ones: the Learn steps of one worker on the machine. A
+//! typology is all choices that some ranking makes optimal (factorial typology, after Prince and Smolensky), each with its least
+//! hierarchy (Tesar and Smolensky, Learnability in Optimality Theory, 2000), and all shortest refuted prefixes, each with a
+//! contradiction that shows it (Prince, Entailed Ranking Arguments, 2002). The cuts, the certificates and the walk are this
+//! project's own.
 #![tactic(auto)]
 
+mod laws;
 mod learning;
-mod ready;
 mod schedule;
 mod search;
 #[cfg(test)]
 mod tests;
 mod walk;
 
+pub use laws::{lone_search_has_one_run, lone_search_is_a_run};
 pub use ot_base::PLACE_LIMIT;
 pub use schedule::run_schedule;
 pub use search::{Alone, search_alone};

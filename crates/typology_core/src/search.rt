@@ -6,12 +6,14 @@ ghost use Rattle.ot_theory.specs.Refutations.{certificate_named, certificates, c
 ghost use Rattle.refutation.specs.Typologies.{certificates_of, cuts_of, found_of};
 ghost use Rattle.search_deeds.specs.Gathered.{AreGenuine, AreNamed};
 ghost use Rattle.ot_base.specs.declared.limits.TheConstants.{PLACE_LIMIT};
+ghost use Rattle.typology_core.specs.Rounds.{CountsLoneLearns};
 
 use crate::learning::learns;
-use crate::ready::Ready;
 use crate::walk::{Found, Path, walk};
 use erc_vectors::NoMemory;
+use ot_base::INPUT_LIMIT;
 use refutation::Typology;
+use search_deeds::Ready;
 use std::alloc::Global;
 use violation_profiles::Problem;
 
@@ -28,8 +30,9 @@ pub struct Alone {
 /// How often demotion judges is told of this search. Prefixes wait in a queue, first in, first out, at first the empty one alone.
 /// Each is cut off by the first contradiction among those kept that refutes it. Where there is none it is judged by demotion, and
 /// the certificate of a refuted one is kept if there is a place left. The children of a prefix that holds and is no full choice
-/// wait behind the others. The number of places changes how often demotion judges, and nothing else; so the typology is found
-/// by a walk that comes to it in order.
+/// wait behind the others. So one worker makes its steps on the machine, and how often demotion judges is the number of Learn steps
+/// among them. The number of places changes that number, and nothing else; so the typology is found by a walk that comes to it
+/// in order, and the number by its cuts.
 pub fn search_alone(alloc: Global, p: &Problem, places: usize) -> Result<Alone, NoMemory>
     requires { places ≤ PLACE_LIMIT }
     ensures languages { IfOk result (λ alone. IsTypology p.now (found_of alone.typology.languages)) }
@@ -37,15 +40,17 @@ pub fn search_alone(alloc: Global, p: &Problem, places: usize) -> Result<Alone, 
     ensures certificates { IfOk result (λ alone. certificates_of alone.typology.certificates ≡ certificates p.now) }
     ensures genuine { IfOk result (λ alone. AreGenuine p.now alone.typology.certificates) }
     ensures named { IfOk result (λ alone. AreNamed (length alone.typology.certificates) alone.typology.cuts) }
+    ensures learns { IfOk result (λ alone. CountsLoneLearns p.now places alone.learns) }
 {
     let mut ready = Ready::new(alloc, p)?;
     let mut path = Path::start(alloc);
     let mut found = Found::nothing(alloc, p)?;
     walk(alloc, p, &mut ready, &mut path, &mut found)?;
-    let held = path.opened.saturating_add(found.languages.len() as u64);
+    prove!(p.inputs() <= INPUT_LIMIT);
+    prove!(found.languages.len() <= usize::MAX);
     let learns = learns(
         alloc,
-        held,
+        p,
         found.cuts.as_slice(),
         found.certificates.len(),
         places,

@@ -1,95 +1,67 @@
-ghost use Rattle.std.specs.Prelude.{◌≡◌, ◌≤◌, length, IfOk};
-ghost use Rattle.ot_base.specs.Acceptable.{IsRow, AreRows};
+ghost use Rattle.std.specs.Prelude.{◌≡◌, length, IfOk};
+ghost use Rattle.ot_base.specs.Acceptable.{AreRows};
 
 use crate::{PLACE_LIMIT, run_schedule, search_alone};
 use erc_vectors::{ConId, List, NoMemory};
-use ot_base::{CandidateRow, InputRows, Label, Tableau};
+use ot_base::{InputRows, input_of, tableau_of};
 use refutation::{Contradiction, Prefix, Typology};
 use std::alloc::Global;
 use std::process::Abort;
 use std::test::Fail;
 use violation_profiles::Problem;
 
-/// Three candidates of each of two inputs, with their violations of four constraints, of which the first ones count.
-type Violations = [[[u8; 4]; 3]; 2];
-
 /// Two inputs that are repaired alike.
-const TWO_CODAS: Violations = [
-    [[1, 0, 0, 0], [0, 1, 0, 0], [0, 0, 1, 0]],
-    [[1, 0, 0, 0], [0, 1, 0, 0], [0, 0, 1, 0]],
+const TWO_CODAS: [[[u8; 3]; 3]; 2] = [
+    [[1, 0, 0], [0, 1, 0], [0, 0, 1]],
+    [[1, 0, 0], [0, 1, 0], [0, 0, 1]],
 ];
 
 /// One class of the second input violates more than the other, and nothing less.
-const BOUNDED: Violations = [
-    [[1, 0, 0, 0], [0, 1, 0, 0], [0, 0, 1, 0]],
-    [[0, 0, 0, 0], [1, 0, 0, 0], [1, 0, 0, 0]],
+const BOUNDED: [[[u8; 3]; 3]; 2] = [
+    [[1, 0, 0], [0, 1, 0], [0, 0, 1]],
+    [[0, 0, 0], [1, 0, 0], [1, 0, 0]],
 ];
 
 /// Basic syllable structure.
-const SYLLABLES: Violations = [
+const SYLLABLES: [[[u8; 4]; 3]; 2] = [
     [[1, 0, 0, 0], [0, 0, 0, 1], [0, 0, 1, 0]],
     [[0, 1, 0, 0], [0, 0, 0, 1], [0, 0, 1, 0]],
 ];
 
 /// The last choice is refuted by what an earlier one teaches, and has another certificate of its own.
-const OTHER_CERTIFICATE: Violations = [
+const OTHER_CERTIFICATE: [[[u8; 4]; 3]; 2] = [
     [[1, 0, 1, 0], [0, 1, 0, 0], [1, 0, 0, 1]],
     [[1, 0, 0, 0], [0, 0, 0, 0], [0, 1, 0, 0]],
 ];
 
-fn row(alloc: Global, n: usize, marks: &[u8; 4]) -> Result<CandidateRow, NoMemory>
-    requires { n ≤ 4 }
-    ensures { IfOk result (λ row. IsRow n row) }
+fn input_of_three(alloc: Global, rows: &[[u8; 3]; 3]) -> Result<InputRows, NoMemory>
+    ensures rows { IfOk result (λ input. AreRows 3 input) }
+    ensures candidates { IfOk result (λ input. length input.candidates ≡ 3) }
 {
-    let mut violations = List::new(alloc);
-    for violation in &marks[..n] {
-        violations.push(u32::from(*violation))?;
-    }
-    Ok(CandidateRow {
-        text: Label::of(alloc, b"")?,
-        count: 0,
-        violations,
-        line: 3,
-    })
+    input_of(alloc, "", &rows.map(|marks| ("", 0, marks)))
 }
 
-fn input(alloc: Global, n: usize, rows: &[[u8; 4]; 3]) -> Result<InputRows, NoMemory>
-    requires { n ≤ 4 }
-    ensures { IfOk result (λ input. AreRows n input) }
-{
-    let mut candidates = List::new(alloc);
-    for marks in rows {
-        candidates.push(row(alloc, n, marks)?)?;
-    }
-    Ok(InputRows {
-        text: Label::of(alloc, b"")?,
-        candidates,
-    })
+fn problem_of_three(alloc: Global, inputs: &[[[u8; 3]; 3]; 2]) -> Result<Problem, NoMemory> {
+    let mut list = List::new(alloc);
+    list.push(input_of_three(alloc, &inputs[0])?)?;
+    list.push(input_of_three(alloc, &inputs[1])?)?;
+    let names = ["A", "B", "C"];
+    Problem::of(alloc, &tableau_of(alloc, &names, &names, list)?)
 }
 
-fn names(alloc: Global, n: usize) -> Result<List<Label>, NoMemory>
-    ensures { IfOk result (λ names. length names ≡ n) }
+fn input_of_four(alloc: Global, rows: &[[u8; 4]; 3]) -> Result<InputRows, NoMemory>
+    ensures rows { IfOk result (λ input. AreRows 4 input) }
+    ensures candidates { IfOk result (λ input. length input.candidates ≡ 3) }
 {
-    let mut names = List::new(alloc);
-    for _ in 0..n {
-        names.push(Label::of(alloc, b"")?)?;
-    }
-    Ok(names)
+    input_of(alloc, "", &rows.map(|marks| ("", 0, marks)))
 }
 
-fn problem(alloc: Global, n: usize, violations: &Violations) -> Result<Problem, NoMemory>
-    requires some { 1 ≤ n }
-    requires few { n ≤ 4 }
-{
-    let mut inputs = List::new(alloc);
-    inputs.push(input(alloc, n, &violations[0])?)?;
-    inputs.push(input(alloc, n, &violations[1])?)?;
-    let tableau = Tableau {
-        names: names(alloc, n)?,
-        abbrevs: names(alloc, n)?,
-        inputs,
-    };
-    Problem::of(alloc, &tableau)
+fn problem_of_four(alloc: Global, inputs: &[[[u8; 4]; 3]; 2]) -> Result<Problem, NoMemory> {
+    let mut list = List::new(alloc);
+    list.push(input_of_four(alloc, &inputs[0])?)?;
+    list.push(input_of_four(alloc, &inputs[1])?)?;
+    let names = ["A", "B", "C", "D"];
+    Problem::of(alloc, &tableau_of(alloc, &names, &names, list)?)
 }
 
 fn write_prefix(text: &mut String, prefix: &Prefix) -> Result<(), Fail> {
@@ -158,7 +130,7 @@ fn typologies_with_any_number_of_places(rt: HostRuntime) -> Result<(), Fail> {
         &rt,
         alloc,
         "two codas",
-        &problem(alloc, 3, &TWO_CODAS)?,
+        &problem_of_three(alloc, &TWO_CODAS)?,
         "1 1 211\n2 2 121\n3 3 112\n1 2 #1\n1 3 #2\n2 1 #3\n2 3 #4\n3 1 #5\n3 2 #6\n1:1>2 2:2>1 \n1:1>3 2:3>1 \n1:2>1 2:1>2 \n1:2>3 2:3>2 \n1:3>1 2:1>3 \n1:3>2 2:2>3 \n",
         &[(0, 13), (1, 13), (16, 13)],
     )?;
@@ -166,7 +138,7 @@ fn typologies_with_any_number_of_places(rt: HostRuntime) -> Result<(), Fail> {
         &rt,
         alloc,
         "bounded",
-        &problem(alloc, 3, &BOUNDED)?,
+        &problem_of_three(alloc, &BOUNDED)?,
         "1 1 211\n2 1 121\n3 1 112\n1 2 #1\n2 2 #1\n3 2 #1\n2:2>1 \n",
         &[(0, 10), (1, 8), (16, 8)],
     )?;
@@ -174,7 +146,7 @@ fn typologies_with_any_number_of_places(rt: HostRuntime) -> Result<(), Fail> {
         &rt,
         alloc,
         "syllables",
-        &problem(alloc, 4, &SYLLABLES)?,
+        &problem_of_four(alloc, &SYLLABLES)?,
         "1 1 2211\n1 2 3112\n1 3 3121\n2 1 1312\n2 2 1112\n3 1 1321\n3 3 1121\n2 3 #1\n3 2 #2\n1:2>3 2:3>2 \n1:3>2 2:2>3 \n",
         &[(0, 13), (1, 13), (16, 13)],
     )?;
@@ -182,7 +154,7 @@ fn typologies_with_any_number_of_places(rt: HostRuntime) -> Result<(), Fail> {
         &rt,
         alloc,
         "another certificate",
-        &problem(alloc, 4, &OTHER_CERTIFICATE)?,
+        &problem_of_four(alloc, &OTHER_CERTIFICATE)?,
         "1 2 2121\n2 2 1211\n3 2 2112\n1 1 #1\n1 3 #2\n2 1 #1\n2 3 #3\n3 1 #1\n3 3 #3\n2:1>2 \n1:1>2 2:3>1 \n2:3>2 \n",
         &[(0, 13), (1, 11), (16, 10)],
     )
@@ -216,7 +188,7 @@ fn schedules_find_the_typology(rt: HostRuntime) -> Result<(), Fail> {
         &rt,
         alloc,
         "two codas",
-        &problem(alloc, 3, &TWO_CODAS)?,
+        &problem_of_three(alloc, &TWO_CODAS)?,
         "1 1 211\n2 2 121\n3 3 112\n1 2 #1\n1 3 #2\n2 1 #3\n2 3 #4\n3 1 #5\n3 2 #6\n1:1>2 2:2>1 \n1:1>3 2:3>1 \n1:2>1 2:1>2 \n1:2>3 2:3>2 \n1:3>1 2:1>3 \n1:3>2 2:2>3 \n",
         &[13, 13, 13, 13],
     )?;
@@ -224,7 +196,7 @@ fn schedules_find_the_typology(rt: HostRuntime) -> Result<(), Fail> {
         &rt,
         alloc,
         "bounded",
-        &problem(alloc, 3, &BOUNDED)?,
+        &problem_of_three(alloc, &BOUNDED)?,
         "1 1 211\n2 1 121\n3 1 112\n1 2 #1\n2 2 #1\n3 2 #1\n2:2>1 \n",
         &[8, 9, 9, 10],
     )

@@ -2,12 +2,14 @@
 //!
 //! It finds the languages and the cuts in lexicographic order, and so it names the certificate of a cut when it comes to it. What
 //! makes it fast: a prefix is first held against the certificates that name its last class, and of these only against those
-//! whose choices may all be its own; what a class asks of a ranking is made once; and the path keeps the conditions of its
-//! classes, without those that earlier ones imply, so that a child adds its own behind them and takes them off again.
+//! whose choices may all be its own; what a class asks of a ranking is made once; the path keeps the conditions of its
+//! classes, without those that earlier ones imply, so that a child adds its own behind them and takes them off again; and where
+//! the least hierarchy of a prefix satisfies what a child adds, it is the child's too, and nothing is demoted.
 
-ghost use Rattle.std.specs.Prelude.{◌≡◌, ◌<◌, ◌≤◌, ◌+◌, ℕ, List, [], ◌∷◌, ◌++◌, length, true, false, take, IfOk, OnOk, IfSome, IfNone, All};
+ghost use Rattle.std.specs.Prelude.{◌≡◌, ◌<◌, ◌≤◌, ◌+◌, ℕ, List, [], ◌∷◌, ◌++◌, length, true, false, take, drop, IfOk, OnOk, IfSome, IfNone, All};
+ghost use Rattle.std.specs.List.{list_all};
 ghost use Rattle.ot_base.specs.declared.limits.TheConstants.{INPUT_LIMIT};
-ghost use Rattle.ot_theory.specs.Hierarchies.{IsLeastHierarchy};
+ghost use Rattle.ot_theory.specs.Hierarchies.{IsLeastHierarchy, satisfies};
 ghost use Rattle.ot_theory.specs.Languages as theory;
 ghost use Rattle.ot_theory.specs.Languages.{classes_at, conditions_of, refuted, terms_of_class};
 ghost use Rattle.refutation.specs.Asked.{AreAsked, Begins};
@@ -15,16 +17,15 @@ ghost use Rattle.violation_profiles.specs.WellFormed.{IsPrefix};
 ghost use Rattle.refutation.specs.Prefixes.{class_numbers};
 ghost use Rattle.refutation.specs.Typologies.{certificates_of, cuts_of, found_of};
 ghost use Rattle.search_deeds.specs.Gathered.{first_refuting};
-ghost use Rattle.typology_core.specs.Made.{AreMade};
+ghost use Rattle.search_deeds.specs.Made.{AreMade};
 ghost use Rattle.search_deeds.specs.Sieved.{HasBits};
-ghost use Rattle.typology_core.specs.Walked.{AreAllBelow, AreMore, IsDone, IsEntered, IsFoundOf, IsPathOf, IsReached, IsSamePath, IsSettled, IsToOpen, prefix_of};
+ghost use Rattle.typology_core.specs.Walked.{AreAllBelow, AreMore, IsDone, IsEntered, IsFoundOf, IsJudged, IsLower, IsPathOf, IsReached, IsSamePath, IsSettled, IsToOpen, prefix_of};
 
-use crate::ready::Ready;
 use demotion::least_hierarchy;
 use erc_vectors::{Condition, List, NoMemory, Strata};
 use ot_base::{ClassId, INPUT_LIMIT, InId};
 use refutation::{Asked, Contradiction, Cut, Language, Prefix, core_of_conditions};
-use search_deeds::{Index, bits_of, place_of, with_choice};
+use search_deeds::{Index, Ready, bits_of, place_of, with_choice};
 use std::alloc::Global;
 use violation_profiles::Problem;
 
@@ -33,8 +34,6 @@ use violation_profiles::Problem;
 pub(crate) struct Path {
     pub(crate) classes: Vec<ClassId>,
     pub(crate) asked: Asked,
-    /// How many prefixes the walk went on from. It stays at 2^64 - 1 once it is there.
-    pub(crate) opened: u64,
 }
 
 /// What the walk found so far.
@@ -61,19 +60,21 @@ pub(crate) fn walk(
     ensures found { OnOk result (IsFoundOf p.now found.new) }
     ensures more { OnOk result ((n : ℕ) → length path.old.classes.items + n ≡ length p.now.inputs → AreAllBelow p.now n (prefix_of path.old) found.old found.new) }
 {
-    if holds(alloc, p, path, found)? {
+    let hierarchy = hierarchy_of(p, path);
+    if let Some(strata) = holds(alloc, p, path, &hierarchy, found)? {
         let bits = bits_of(path.classes.as_slice());
-        visit(alloc, p, bits, ready, path, found)?;
+        visit(alloc, p, bits, &strata, ready, path, found)?;
     }
     Ok(())
 }
 
-/// Adds the languages and the cuts that extend a prefix which is not refuted and is no full choice, and whose choices have these
-/// bits.
+/// Adds the languages and the cuts that extend a prefix which is not refuted and is no full choice, whose choices have these
+/// bits, and whose conditions have this least hierarchy.
 fn visit(
     alloc: Global,
     p: &Problem,
     bits: u64,
+    strata: &Strata,
     ready: &mut Ready,
     path: &mut Path,
     found: &mut Found,
@@ -83,6 +84,7 @@ fn visit(
     requires held { refuted p.now (prefix_of path.old) ≡ false }
     requires shorter { length path.old.classes.items < length p.now.inputs }
     requires bits { HasBits (prefix_of path.old) bits }
+    requires least { IsLeastHierarchy p.now.constraints (conditions_of p.now (prefix_of path.old)) strata.now }
     requires found { IsFoundOf p.now found.old }
     ensures found { OnOk result (IsFoundOf p.now found.new) }
     ensures more { OnOk result ((n : ℕ) → length path.old.classes.items + n ≡ length p.now.inputs → AreAllBelow p.now n (prefix_of path.old) found.old found.new) }
@@ -90,75 +92,118 @@ fn visit(
     ensures made { OnOk result (AreMade p.now ready.new) }
 {
     prove!(p.inputs() <= INPUT_LIMIT);
-    path.opened = path.opened.saturating_add(1);
     let input = InId(path.classes.len() as u32);
     for a in 0..p.classes(input) {
         let class = ClassId(a as u16);
         let terms = path.asked.terms.len();
         let longer = with_choice(bits, input, class);
-        if enter(alloc, p, class, longer, ready, path, found)? {
-            visit(alloc, p, longer, ready, path, found)?;
+        if let Some(lower) = enter(alloc, p, class, longer, strata, ready, path, found)? {
+            visit(alloc, p, longer, &lower, ready, path, found)?;
             leave(path, input, terms);
         }
     }
     Ok(())
 }
 
-/// Whether a prefix that no certificate so far refutes is neither refuted nor a full choice. Where it is, it is added as a cut or a
-/// language.
-fn holds(alloc: Global, p: &Problem, path: &Path, found: &mut Found) -> Result<bool, NoMemory>
+/// The least hierarchy of a prefix that no certificate so far refutes, where it is neither refuted nor a full choice. Else it is added
+/// as a cut or a language. The hierarchy is the least one of its conditions, if some ranking keeps them.
+fn holds(
+    alloc: Global,
+    p: &Problem,
+    path: &Path,
+    hierarchy: &Option<Strata>,
+    found: &mut Found,
+) -> Result<Option<Strata>, NoMemory>
     requires path { IsPathOf p.now path.now }
+    requires judged { IsJudged p.now (prefix_of path.now) hierarchy.now }
     requires fresh { first_refuting (certificates_of found.old.certificates) (prefix_of path.now) ≡ length found.old.certificates }
     requires found { IsFoundOf p.now found.old }
-    ensures opened { IfOk result (λ opened. opened ≡ true → IsToOpen p.now path.now found.old found.new) }
-    ensures settled { IfOk result (λ opened. opened ≡ false → IsSettled p.now path.now found.old found.new) }
+    ensures opened { IfOk result (λ opened. IfSome opened (λ strata. IsToOpen p.now path.now found.old found.new)) }
+    ensures least { IfOk result (λ opened. IfSome opened (λ strata. IsLeastHierarchy p.now.constraints (conditions_of p.now (prefix_of path.now)) strata)) }
+    ensures settled { IfOk result (λ opened. IfNone opened (IsSettled p.now path.now found.old found.new)) }
 {
-    match hierarchy_of(p, path) {
+    match hierarchy {
         None => {
             found.add_certificate(alloc, p, path)?;
-            Ok(false)
+            Ok(None)
         }
-        Some(strata) if path.classes.len() == p.inputs() => {
-            found.add_language(alloc, p, path, strata)?;
-            Ok(false)
+        Some(strata) if is_full(p, path) => {
+            found.add_language(alloc, p, path, *strata)?;
+            Ok(None)
         }
-        Some(_) => Ok(true),
+        Some(strata) => Ok(Some(*strata)),
     }
+}
+
+/// Whether a prefix is a full choice.
+fn is_full(p: &Problem, path: &Path) -> bool
+    requires { IsPathOf p.now path.now }
+    ensures full { result ≡ true → length path.now.classes.items ≡ length p.now.inputs }
+    ensures shorter { result ≡ false → length path.now.classes.items < length p.now.inputs }
+{
+    prove!(path.classes.len() <= p.inputs());
+    path.classes.len() == p.inputs()
 }
 
 /// The least hierarchy of the conditions of a prefix, if some ranking keeps them.
 fn hierarchy_of(p: &Problem, path: &Path) -> Option<Strata>
     requires { IsPathOf p.now path.now }
-    ensures held { IfSome result (λ levels. refuted p.now (prefix_of path.now) ≡ false) }
-    ensures least { IfSome result (λ levels. IsLeastHierarchy p.now.constraints (conditions_of p.now (prefix_of path.now)) levels) }
-    ensures refuted { IfNone result (refuted p.now (prefix_of path.now) ≡ true) }
-    ensures short { length path.now.classes.items ≤ length p.now.inputs }
-    ensures small { length p.now.inputs ≤ INPUT_LIMIT }
+    ensures { IsJudged p.now (prefix_of path.now) result }
 {
-    prove!(path.classes.len() <= p.inputs());
     least_hierarchy(p.constraints(), path.asked.conditions.as_slice())
 }
 
+/// The same, where this hierarchy satisfies the first conditions and is at most every one that satisfies them all. Where it
+/// satisfies the others too, it is the least one.
+fn hierarchy_from(p: &Problem, path: &Path, strata: &Strata, first: usize) -> Option<Strata>
+    requires path { IsPathOf p.now path.now }
+    requires within { first ≤ length path.now.asked.conditions.items }
+    requires lower { IsLower p.now (prefix_of path.now) strata.now }
+    requires satisfied { list_all (satisfies strata.now) (take first path.now.asked.conditions.items) ≡ true }
+    ensures { IsJudged p.now (prefix_of path.now) result }
+{
+    prove!(strata.width() == p.constraints());
+    let conditions = path.asked.conditions.as_slice();
+    if satisfies_all(strata, &conditions[first..]) {
+        return Some(*strata);
+    }
+    hierarchy_of(p, path)
+}
+
+/// Whether a hierarchy satisfies each of some conditions.
+fn satisfies_all(strata: &Strata, conditions: &[Condition]) -> bool
+    requires { All (λ marks. length marks ≡ length strata.now) conditions.now }
+    ensures { result ≡ list_all (satisfies strata.now) conditions.now }
+{
+    conditions
+        .iter()
+        .all(|condition| strata.satisfies(condition))
+}
+
 /// Goes on to a class of the next input, unless the prefix with this class is refuted or a full choice: then that is added instead.
+/// Answers the least hierarchy of the longer prefix, from that of the prefix.
 fn enter(
     alloc: Global,
     p: &Problem,
     class: ClassId,
     bits: u64,
+    strata: &Strata,
     ready: &mut Ready,
     path: &mut Path,
     found: &mut Found,
-) -> Result<bool, NoMemory>
+) -> Result<Option<Strata>, NoMemory>
     requires made { AreMade p.now ready.old }
     requires path { IsPathOf p.now path.old }
     requires held { refuted p.now (prefix_of path.old) ≡ false }
     requires shorter { length path.old.classes.items < length p.now.inputs }
     requires class { class.0 < length (classes_at p.now (length path.old.classes.items)) }
     requires bits { HasBits (prefix_of path.old ++ class.0 ∷ []) bits }
+    requires least { IsLeastHierarchy p.now.constraints (conditions_of p.now (prefix_of path.old)) strata.now }
     requires found { IsFoundOf p.now found.old }
-    ensures entered { IfOk result (λ entered. entered ≡ true → IsEntered p.now class.0 path.old path.new found.old found.new) }
-    ensures bits { IfOk result (λ entered. entered ≡ true → HasBits (prefix_of path.new) bits) }
-    ensures settled { IfOk result (λ entered. entered ≡ false → IsDone p.now class.0 path.old path.new found.old found.new) }
+    ensures entered { IfOk result (λ entered. IfSome entered (λ lower. IsEntered p.now class.0 path.old path.new found.old found.new)) }
+    ensures least { IfOk result (λ entered. IfSome entered (λ lower. IsLeastHierarchy p.now.constraints (conditions_of p.now (prefix_of path.new)) lower)) }
+    ensures bits { IfOk result (λ entered. IfSome entered (λ lower. HasBits (prefix_of path.new) bits)) }
+    ensures settled { IfOk result (λ entered. IfNone entered (IsDone p.now class.0 path.old path.new found.old found.new)) }
     ensures made { OnOk result (AreMade p.now ready.new) }
 {
     prove!(p.inputs() <= INPUT_LIMIT);
@@ -167,26 +212,32 @@ fn enter(
     if let Some(place) = found.place_of(p, path.classes.as_slice(), bits) {
         found.add_cut(alloc, path.classes.as_slice(), place)?;
         path.classes.truncate(input.0 as usize);
-        return Ok(false);
+        return Ok(None);
     }
     let terms = path.asked.terms.len();
     ready.make(alloc, p, input, class)?;
-    ask(p, ready, input, class, &mut path.asked)?;
-    if holds(alloc, p, path, found)? {
-        path.asked.forget(terms);
-        ask_needed(p, ready, input, class, &mut path.asked)?;
-        return Ok(true);
+    ask(p, ready, input, class, false, &mut path.asked)?;
+    let hierarchy = hierarchy_from(p, path, strata, terms);
+    match holds(alloc, p, path, &hierarchy, found)? {
+        Some(lower) => {
+            path.asked.forget(terms);
+            ask(p, ready, input, class, true, &mut path.asked)?;
+            Ok(Some(lower))
+        }
+        None => {
+            leave(path, input, terms);
+            Ok(None)
+        }
     }
-    leave(path, input, terms);
-    Ok(false)
 }
 
-/// Adds what a class of an input asks.
+/// Adds what a class of an input asks, and where only what is needed is wanted, without what the others imply.
 fn ask(
     p: &Problem,
     ready: &Ready,
     input: InId,
     class: ClassId,
+    needed: bool,
     asked: &mut Asked,
 ) -> Result<(), NoMemory>
     requires input { input.0 < length p.now.inputs }
@@ -198,33 +249,17 @@ fn ask(
     ensures conditions { OnOk result (Begins asked.old.conditions.items asked.new.conditions.items) }
 {
     match ready.of(input, class) {
-        Some(more) => asked.append(more),
+        Some(more) => {
+            if needed {
+                asked.append_needed(more)
+            } else {
+                asked.append(more)
+            }
+        }
         None => {
-            let from = asked.terms.len();
+            let from = if needed { 0 } else { asked.terms.len() };
             asked.add(p, input, class, from)
         }
-    }
-}
-
-/// The same without what the others imply.
-fn ask_needed(
-    p: &Problem,
-    ready: &Ready,
-    input: InId,
-    class: ClassId,
-    asked: &mut Asked,
-) -> Result<(), NoMemory>
-    requires input { input.0 < length p.now.inputs }
-    requires class { class.0 < length (classes_at p.now input.0) }
-    requires made { AreMade p.now ready.now }
-    ensures asked { OnOk result ((whole : List theory.Term) → AreAsked p.now whole asked.old.terms.items asked.old.conditions.items
-        → AreAsked p.now (whole ++ terms_of_class (classes_at p.now input.0) input.0 class.0) asked.new.terms.items asked.new.conditions.items) }
-    ensures terms { OnOk result (Begins asked.old.terms.items asked.new.terms.items) }
-    ensures conditions { OnOk result (Begins asked.old.conditions.items asked.new.conditions.items) }
-{
-    match ready.of(input, class) {
-        Some(more) => asked.append_needed(more),
-        None => asked.add(p, input, class, 0),
     }
 }
 
@@ -261,7 +296,6 @@ impl Path {
         Path {
             classes: Vec::new(alloc),
             asked: Asked::nothing(alloc),
-            opened: 0,
         }
     }
 }

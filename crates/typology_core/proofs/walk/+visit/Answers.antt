@@ -1,17 +1,11 @@
-use Rattle.std.proofs.Common.{◌≡◌, ◌∙◌, ◌+◌, ◌-◌, ℕ, arith, refl, sym, ap, length}
+use Rattle.std.proofs.Common.{rules, ◌≡◌, ◌-◌, arith, length}
 use Rattle.std.proofs.lemmas.List.{length-map}
 use Rattle.ot_base.specs.declared.tableau.ClassId.{ClassId}
 use Rattle.ot_theory.specs.Languages.{classes_at}
-use Rattle.typology_core.specs.Walked.{prefix_of}
-use Rattle.typology_core.proofs.Walking.{back-from, below-children, done-more, entered-more, same-path, same-prefix, same-trans}
+use Rattle.typology_core.specs.Walked.{IsDone, IsEntered, prefix_of}
+use Rattle.typology_core.proofs.Walking.{back-from, below-children, done-more, entered-more, same-path, same-trans}
 use Rattle.typology_core.proofs.walk.+visit.Goals as goal
-use Rattle.typology_core.proofs.walk.+visit.Goals.{then-branch+in_ok-visit, else-branch}
-
-pub enter-requires-clause-bits : goal.enter-requires-clause-bits
-enter-requires-clause-bits t c =
-    let start = c.args.path.now in
-    let long : length (prefix_of start) ≡ c.len.result = omega (arith, length-map start.classes.items (λ (d : ClassId). d.0), c.len.ensures, start.classes.ok.0) in
-    rw (same-prefix start c.loop-a.path c.loop-a.invariant.path) (c.with_choice-longer.ensures (prefix_of start) long c.requires.bits)
+use Rattle.typology_core.proofs.walk.+visit.Goals.{in-Some+in_ok-visit, in_default}
 
 pub loop-a-preserved : goal.loop-a-preserved
 loop-a-preserved t c =
@@ -19,9 +13,9 @@ loop-a-preserved t c =
     let start = c.args.path.now in
     let same = c.loop-a.invariant.path in
     let a = c.loop-a.a in
-    elim c.if-branch.branch [
-      | then-branch+in_ok-visit w ↦
-          let entered = c.in_ok-enter.ensures.entered w.if-branch.true in
+    elim c.match-branch-2.branch [
+      | in-Some+in_ok-visit w ↦
+          let entered : IsEntered problem a c.loop-a.path c.enter.new.path c.loop-a.found c.enter.new.found = search rules in
           rw (w.path-is, w.found-is, w.ready-is) (record {
             made = w.in_ok-visit.ensures.made;
             sound = w.in_ok-visit.ensures.found;
@@ -29,10 +23,10 @@ loop-a-preserved t c =
                 entered.classes entered.terms entered.conditions w.in_ok-visit.ensures.path (omega (arith, c.len.ensures, start.classes.ok.0)) (omega (arith, c.len-terms.ensures, c.loop-a.path.asked.terms.ok.0)) w.leave.ensures.classes w.leave.ensures.terms w.leave.ensures.conditions;
             grown = λ n count. entered-more problem n a start c.loop-a.path c.enter.new.path c.args.found.now c.loop-a.found c.enter.new.found w.visit.new.found same entered count w.in_ok-visit.ensures.more (c.loop-a.invariant.grown n count);
           })
-      | else-branch w ↦
-          let done = c.in_ok-enter.ensures.settled w.if-branch.false in
+      | in_default w ↦
+          let done : IsDone problem a c.loop-a.path c.enter.new.path c.loop-a.found c.enter.new.found = search rules in
           rw (w.path-is, w.found-is, w.ready-is) (record {
-            made = c.in_ok-enter.ensures.made;
+            made = c.in_ok-lower.ensures.made;
             sound = done.sound;
             path = same-trans start c.loop-a.path c.enter.new.path same done.stays;
             grown = λ n count. done-more problem n a start c.loop-a.path c.enter.new.path c.args.found.now c.loop-a.found c.enter.new.found same done count (c.loop-a.invariant.grown n count);

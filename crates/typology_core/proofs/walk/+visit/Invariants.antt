@@ -1,6 +1,6 @@
 use Rattle.std.proofs.Common.{◌≡◌, ◌+◌, ◌-◌, ℕ, flat_map, length}
 use Rattle.typology_core.specs.Below.{cuts_below, languages_below}
-use Rattle.typology_core.specs.Made.{AreMade}
+use Rattle.search_deeds.specs.Made.{AreMade}
 use Rattle.typology_core.specs.Walked.{AreMore, IsFoundOf, IsSamePath, prefix_of}
 use Rattle.search_deeds.proofs.Children.{children_below}
 use Rattle.typology_core.proofs.walk.+visit.Given as goal

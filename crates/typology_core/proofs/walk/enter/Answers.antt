@@ -1,13 +1,12 @@
-use Rattle.std.proofs.Common.{◌≡◌, ◌∙◌, ◌+◌, refl, sym, ap, ℕ, List, [], ◌∷◌, ◌++◌, length, length-append, take, arith}
+use Rattle.std.proofs.Common.{rules, ◌≡◌, ◌∙◌, refl, sym, ap, ℕ, List, [], ◌∷◌, ◌++◌, length, length-append, take, arith}
 use Rattle.std.proofs.lemmas.List.{length-map, take-append-le, take_all}
 use Rattle.ot_base.specs.declared.tableau.ClassId.{ClassId}
 use Rattle.ot_theory.specs.Languages.{terms_of}
-use Rattle.refutation.specs.Asked.{Begins}
 use Rattle.refutation.specs.declared.typology.Cut.{Cut}
 use Rattle.refutation.specs.Prefixes.{class_numbers}
-use Rattle.typology_core.specs.Walked.{IsPathOf, IsSamePath, prefix_of}
-use Rattle.typology_core.specs.declared.walk.Path.{Path}
-use Rattle.typology_core.proofs.Walking.{path-child, asked-child, back-from, below-refuted, place-refuted, with-old-cut, child-of, cut-same, length-conditions, take-front}
+use Rattle.typology_core.specs.Walked.{IsToOpen, prefix_of}
+use Rattle.typology_core.proofs.Lower.{IsLower-child, path-satisfied}
+use Rattle.typology_core.proofs.Walking.{path-child, asked-child, below-refuted, place-refuted, with-old-cut, child-of, cut-same, length-conditions, take-front}
 use Rattle.typology_core.proofs.walk.enter.Goals as goal
 
 pub place_of-requires-clause-reached : goal.place_of-requires-clause-reached
@@ -20,7 +19,7 @@ place_of-requires-clause-bits c =
     rw (child-of c.args.path.now c.as_slice.result.now c.go_on.new.classes.items c.args.class c.in_ok-go_on.ensures c.as_slice.ensures.value) c.requires.bits
 
 pub returns-in-Some-clause-settled : goal.returns-in-Some-clause-settled
-returns-in-Some-clause-settled c e =
+returns-in-Some-clause-settled c =
     let problem = c.args.p.now in
     let path = c.args.path.now in
     let child : List ℕ = prefix_of path ++ c.args.class.0 ∷ [] in
@@ -40,6 +39,17 @@ returns-in-Some-clause-settled c e =
       below = λ n count. below-refuted problem n child c.args.found.now c.add_cut.new.self hopeless cut.grown;
     }
 
+pub hierarchy_from-hierarchy-requires-clause-path : goal.hierarchy_from-hierarchy-requires-clause-path
+hierarchy_from-hierarchy-requires-clause-path c =
+    let problem = c.args.p.now in
+    let path = c.args.path.now in
+    let now : class_numbers c.go_on.new.classes.items ≡ prefix_of path ++ c.args.class.0 ∷ [] = child-of path c.go_on.new.classes.items c.go_on.new.classes.items c.args.class c.in_ok-go_on.ensures refl in
+    let long : length (prefix_of path) ≡ c.len.result = omega (arith, length-map path.classes.items (λ (d : ClassId). d.0), c.len.ensures, path.classes.ok.0) in
+    record {
+      reached = rw now (path-child problem path c.args.class.0 c.requires.path c.requires.held c.requires.shorter c.requires.class);
+      asked = rw now (asked-child problem (prefix_of path) c.len.result c.args.class.0 c.ask.new.asked.terms.items c.ask.new.asked.conditions.items long (c.in_ok-ask.ensures.asked (terms_of problem (prefix_of path)) c.requires.path.asked));
+    }
+
 pub holds-requires-clause-path : goal.holds-requires-clause-path
 holds-requires-clause-path c =
     let problem = c.args.p.now in
@@ -51,48 +61,41 @@ holds-requires-clause-path c =
       asked = rw now (asked-child problem (prefix_of path) c.len.result c.args.class.0 c.ask.new.asked.terms.items c.ask.new.asked.conditions.items long (c.in_ok-ask.ensures.asked (terms_of problem (prefix_of path)) c.requires.path.asked));
     }
 
-pub returns-then-branch-clause-entered : goal.returns-then-branch-clause-entered
-returns-then-branch-clause-entered c e =
+pub hierarchy_from-hierarchy-requires-clause-lower : goal.hierarchy_from-hierarchy-requires-clause-lower
+hierarchy_from-hierarchy-requires-clause-lower c =
+    let path = c.args.path.now in
+    let now : class_numbers c.go_on.new.classes.items ≡ prefix_of path ++ c.args.class.0 ∷ [] = child-of path c.go_on.new.classes.items c.go_on.new.classes.items c.args.class c.in_ok-go_on.ensures refl in
+    rw now (IsLower-child c.args.p.now (prefix_of path) c.args.class.0 c.args.strata.now c.requires.least)
+
+pub hierarchy_from-hierarchy-requires-clause-satisfied : goal.hierarchy_from-hierarchy-requires-clause-satisfied
+hierarchy_from-hierarchy-requires-clause-satisfied c =
+    let problem = c.args.p.now in
+    let path = c.args.path.now in
+    let count : c.len-terms.result ≡ length path.asked.terms.items = omega (arith, c.len-terms.ensures, path.asked.terms.ok.0) in
+    let first : take c.len-terms.result c.ask.new.asked.conditions.items ≡ path.asked.conditions.items =
+    take-front c.len-terms.result path.asked.conditions.items c.ask.new.asked.conditions.items (count ∙ sym (length-conditions problem path c.requires.path)) c.in_ok-ask.ensures.conditions in
+    rw first (path-satisfied problem path c.args.strata.now c.requires.path c.requires.least)
+
+pub returns-in_ok-ask-in-Some-2-clause-entered : goal.returns-in_ok-ask-in-Some-2-clause-entered
+returns-in_ok-ask-in-Some-2-clause-entered c =
     let problem = c.args.p.now in
     let path = c.args.path.now in
     let now : class_numbers c.go_on.new.classes.items ≡ prefix_of path ++ c.args.class.0 ∷ [] = child-of path c.go_on.new.classes.items c.go_on.new.classes.items c.args.class c.in_ok-go_on.ensures refl in
     let long : length (prefix_of path) ≡ c.len.result = omega (arith, length-map path.classes.items (λ (d : ClassId). d.0), c.len.ensures, path.classes.ok.0) in
-    let opened = c.in_ok-holds.ensures.opened c.if-branch.true in
     let count : c.len-terms.result ≡ length path.asked.terms.items = omega (arith, c.len-terms.ensures, path.asked.terms.ok.0) in
     let terms : c.forget.new.self.terms.items ≡ path.asked.terms.items = c.forget.ensures.terms ∙ take-front c.len-terms.result path.asked.terms.items c.ask.new.asked.terms.items count c.in_ok-ask.ensures.terms in
     let conditions : c.forget.new.self.conditions.items ≡ path.asked.conditions.items =
     c.forget.ensures.conditions ∙ take-front c.len-terms.result path.asked.conditions.items c.ask.new.asked.conditions.items (count ∙ sym (length-conditions problem path c.requires.path)) c.in_ok-ask.ensures.conditions in
+    let opened : IsToOpen problem (record { classes = c.go_on.new.classes; asked = c.ask.new.asked }) c.args.found.now c.holds.new.found = search rules in
     record {
       here = record {
         reached = rw now (path-child problem path c.args.class.0 c.requires.path c.requires.held c.requires.shorter c.requires.class);
-        asked = rw now (asked-child problem (prefix_of path) c.len.result c.args.class.0 c.ask_needed.new.asked.terms.items c.ask_needed.new.asked.conditions.items long (c.in_ok-ask_needed.ensures.asked (terms_of problem (prefix_of path)) (rw (terms, conditions) c.requires.path.asked)));
+        asked = rw now (asked-child problem (prefix_of path) c.len.result c.args.class.0 c.ask-in-Some-2.new.asked.terms.items c.ask-in-Some-2.new.asked.conditions.items long (c.in_ok-ask-in-Some-2.ensures.asked (terms_of problem (prefix_of path)) (rw (terms, conditions) c.requires.path.asked)));
       };
       prefix = now;
       classes = record { rest = c.args.class ∷ []; whole = c.in_ok-go_on.ensures };
       long = ap (λ (l : List ClassId). length l) c.in_ok-go_on.ensures ∙ length-append path.classes.items (c.args.class ∷ []);
-      terms = rw terms at c.in_ok-ask_needed.ensures.terms;
-      conditions = rw conditions at c.in_ok-ask_needed.ensures.conditions;
+      terms = rw terms at c.in_ok-ask-in-Some-2.ensures.terms;
+      conditions = rw conditions at c.in_ok-ask-in-Some-2.ensures.conditions;
       opened = record { held = opened.held; shorter = opened.shorter; kept = opened.kept };
     }
-
-pub returns-clause-settled : goal.returns-clause-settled
-returns-clause-settled c e =
-    let problem = c.args.p.now in
-    let path = c.args.path.now in
-    let now : class_numbers c.go_on.new.classes.items ≡ prefix_of path ++ c.args.class.0 ∷ [] = child-of path c.go_on.new.classes.items c.go_on.new.classes.items c.args.class c.in_ok-go_on.ensures refl in
-    let longer : length c.go_on.new.classes.items ≡ length path.classes.items + 1 = ap (λ (l : List ClassId). length l) c.in_ok-go_on.ensures ∙ length-append path.classes.items (c.args.class ∷ []) in
-    let settled = c.in_ok-holds.ensures.settled c.if-branch.false in
-    let child : Path = record { classes = c.go_on.new.classes; asked = c.ask.new.asked; opened = path.opened } in
-    record {
-      stays = back-from problem path path child child c.leave.new.path c.len.result c.len-terms.result c.requires.path (record { classes = refl; terms = refl; conditions = refl })
-          (record { rest = c.args.class ∷ []; whole = c.in_ok-go_on.ensures }) c.in_ok-ask.ensures.terms c.in_ok-ask.ensures.conditions (record { classes = refl; terms = refl; conditions = refl })
-          (omega (arith, c.len.ensures, path.classes.ok.0)) (omega (arith, c.len-terms.ensures, path.asked.terms.ok.0)) c.leave.ensures.classes c.leave.ensures.terms c.leave.ensures.conditions;
-      sound = settled.sound;
-      below = λ n count. rw now at (settled.below n (omega (arith, longer, count)));
-    }
-
-pub returns-then-branch-clause-bits : goal.returns-then-branch-clause-bits
-returns-then-branch-clause-bits c e =
-    let path = c.args.path.now in
-    let now : class_numbers c.go_on.new.classes.items ≡ prefix_of path ++ c.args.class.0 ∷ [] = child-of path c.go_on.new.classes.items c.go_on.new.classes.items c.args.class c.in_ok-go_on.ensures refl in
-    rw now c.requires.bits
