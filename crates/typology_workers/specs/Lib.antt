@@ -1,0 +1,11 @@
+pub mod Stays
+pub mod Settled
+pub mod Consulted
+pub mod Worked
+pub mod FoundSearch
+pub mod Gatherings
+pub mod Packets
+pub mod Found
+pub mod Indexed
+pub mod Turns
+pub mod Turned

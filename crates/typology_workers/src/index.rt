@@ -1,0 +1,132 @@
+//! An index of the values of a front that are contradictions of the problem, so that few of them are asked whether they refute a
+//! prefix.
+//!
+//! A contradiction that refutes a prefix has the winner of its last term in it. So it stands in the slot of one of the classes of the
+//! prefix. Several classes may share a slot.
+
+ghost use Rattle.std.specs.Prelude.{◌≡◌, ◌<◌, ◌≤◌, ℕ, [], length, slice_index, slice_index_or, IfOk, OnOk};
+ghost use Rattle.refutation.specs.Prefixes.{class_numbers};
+ghost use Rattle.violation_profiles.specs.WellFormed.{IsPrefix};
+ghost use Rattle.typology_workers.specs.Indexed.{CutsOffAt, Has, IsIndex, RefutesAt, last_of, slot_of, slots_with};
+
+use erc_vectors::{List, NoMemory};
+use ot_base::{ClassId, INPUT_LIMIT, InId};
+use refutation::{Contradiction, is_genuine, refutes};
+use refutation_store::{Front, Store};
+use std::alloc::Global;
+use violation_profiles::Problem;
+
+/// How far apart the slots of the first classes of two inputs are that follow one another: more than an input has classes, and a prime,
+/// so that the classes of all inputs spread over any number of slots.
+const STRIDE: usize = 211;
+
+/// For each slot the places of the contradictions whose last term has its input and winner there, and how many values of the front
+/// are indexed.
+#[derive(Drop)]
+pub(crate) struct Index {
+    pub(crate) slots: Vec<List<usize>>,
+    pub(crate) indexed: usize,
+}
+
+impl Index {
+    /// The index of no values, with a slot for each place of a store, and at least one.
+    pub(crate) fn new(alloc: Global, places: usize) -> Result<Index, NoMemory>
+        ensures some { IfOk result (λ index. 0 < length index.slots.items) }
+        ensures empty { IfOk result (λ index. (s : ℕ) → slice_index_or index.slots.items s [] ≡ []) }
+        ensures none { IfOk result (λ index. index.indexed ≡ 0) }
+    {
+        let mut slots = Vec::new(alloc);
+        for _slot in 0..places.max(1) {
+            slots.push(List::new(alloc))?;
+        }
+        Ok(Index { slots, indexed: 0 })
+    }
+
+    /// Indexes the values that the front has learnt since.
+    pub(crate) fn learn(
+        &mut self,
+        p: &Problem,
+        store: &Store,
+        front: &Front,
+    ) -> Result<(), NoMemory>
+        requires store { front.now.store ≡ store.now }
+        requires index { IsIndex p.now self.old.slots.items self.old.indexed front.now.values }
+        ensures { OnOk result (IsIndex p.now self.new.slots.items (length front.now.values) front.now.values × (self.new.indexed ≡ length front.now.values)) }
+    {
+        for place in self.indexed..front.len() {
+            let value = store.seen(front, place);
+            if is_genuine(p, value) {
+                add(&mut self.slots, value, place)?;
+            }
+        }
+        self.indexed = front.len();
+        Ok(())
+    }
+
+    /// The first place of the front whose value is a contradiction of the problem and refutes the prefix, or the number of values
+    /// where there is none.
+    pub(crate) fn first(
+        &self,
+        p: &Problem,
+        store: &Store,
+        front: &Front,
+        prefix: &[ClassId],
+    ) -> usize
+        requires store { front.now.store ≡ store.now }
+        requires index { IsIndex p.now self.now.slots.items (length front.now.values) front.now.values }
+        requires prefix { IsPrefix p.now (class_numbers prefix.now) }
+        ensures within { result ≤ length front.now.values }
+        ensures hit { result < length front.now.values → CutsOffAt p.now front.now.values (class_numbers prefix.now) result }
+        ensures first { (k : ℕ) → CutsOffAt p.now front.now.values (class_numbers prefix.now) k → result ≤ k }
+    {
+        prove!(prefix.len() <= p.inputs());
+        prove!(p.inputs() <= INPUT_LIMIT);
+        let mut best = front.len();
+        for i in (0..prefix.len()).rev() {
+            let slot = slot_of(self.slots.len(), InId(i as u32), prefix[i]);
+            let places = &self.slots[slot];
+            best = nearest(store, front, prefix, places.as_slice(), best);
+        }
+        best
+    }
+}
+
+/// The slot of a class of an input, of so many.
+fn slot_of(slots: usize, input: InId, class: ClassId) -> usize
+    requires { 0 < slots }
+    ensures slot { result ≡ slot_of slots input.0 class.0 }
+    ensures within { result < slots }
+{
+    (input.0 as usize * STRIDE + class.0 as usize) % slots
+}
+
+/// Puts a place into the slot of the last term of its value.
+fn add(slots: &mut Vec<List<usize>>, value: &Contradiction, place: usize) -> Result<(), NoMemory>
+    requires { 0 < length slots.old.items }
+    ensures { OnOk result (slots.new.items ≡ slots_with (last_of value.now.terms) place slots.old.items) }
+{
+    match value.terms.as_slice().last() {
+        Some(last) => {
+            let slot = slot_of(slots.len(), last.input, last.winner);
+            slots[slot].push(place)
+        }
+        None => Ok(()),
+    }
+}
+
+/// The first of `best` and of those of these places whose value refutes the prefix.
+fn nearest(store: &Store, front: &Front, prefix: &[ClassId], places: &[usize], best: usize) -> usize
+    requires store { front.now.store ≡ store.now }
+    requires within { best ≤ length front.now.values }
+    ensures low { result ≤ best }
+    ensures hit { result < best → Has places.now result × RefutesAt front.now.values (class_numbers prefix.now) result }
+    ensures all { (j : ℕ) → j < length places.now → RefutesAt front.now.values (class_numbers prefix.now) (slice_index places.now j) → result ≤ slice_index places.now j }
+{
+    let mut nearest = best;
+    for place in places {
+        if *place < nearest && refutes(store.seen(front, *place), prefix) {
+            nearest = *place;
+        }
+    }
+    nearest
+}
