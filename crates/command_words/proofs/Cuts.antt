@@ -10,10 +10,6 @@ use Rattle.command_words.specs.declared.cut.CommandLine.{CommandLine}
 abbrev pub joined : Cut → Cut → Cut
 joined before cut = record { positional = before.positional ++ cut.positional; options = before.options ++ cut.options }
 
-pub joined-nothing : (cut : Option Cut) → option_map (joined (only_words [])) cut ≡ cut
-joined-nothing None = refl
-joined-nothing (Some cut) = refl
-
 joined-word : (words : List (List ℕ)) (options : List Given) (word : List ℕ) (cut : Option Cut)
     → option_map (joined (record { positional = words; options = options })) (option_map (with_word word) cut) ≡ option_map (joined (record { positional = words ++ word ∷ []; options = options })) cut
 joined-word words options word None = refl
@@ -36,7 +32,3 @@ pub more_option : (whole rest behind : Option Cut) (line line' : CommandLine) (o
     → rest ≡ option_map (with_option option.name.now option.value.now) behind → line'.words ≡ line.words → line'.options ≡ line.options ++ option ∷ [] → whole ≡ option_map (joined (shown line')) behind
 more_option whole rest behind line line' option so_far first kept grown =
     rw (so_far, first, kept, grown, map-append given line.options (option ∷ [])) (joined-option (map (λ (w : Bor (List ℕ)). w.now) line.words) (map given line.options) option.name.now option.value.now behind)
-
-pub last_words : (whole rest : Option Cut) (words : List (List ℕ)) (line line' : CommandLine) → whole ≡ option_map (joined (shown line)) rest → rest ≡ Some (only_words words)
-    → map (λ word. word.now) line'.words ≡ map (λ word. word.now) line.words ++ words → line'.options ≡ line.options → whole ≡ Some (shown line')
-last_words whole rest words line line' so_far first grown kept = rw (so_far, first, grown, kept, append-nil (map given line.options)) refl

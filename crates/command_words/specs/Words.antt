@@ -5,7 +5,7 @@ use Rattle.std.specs.Char.{is_ascii_digit}
 use Rattle.std.specs.Str.Parse.{digits_value}
 use Rattle.std.specs.declared.alloc.Global.{Global}
 use Rattle.command_words.specs.declared.settings.Settings.{Settings}
-use Rattle.command_words.specs.declared.settings.Settings.TheVariants.{Typology, Torder, Rank, Bases, Hasse}
+use Rattle.command_words.specs.declared.settings.Settings.TheVariants.{Typology, Torder, Rank, Bases, Hasse, Demo}
 use Rattle.erc_vectors.specs.declared.condition.ConId.{ConId}
 
 -- an option as it was given: its name without the dashes, and its value
@@ -147,6 +147,13 @@ bases_of file options = if are_among [] options then Some (Bases file) else None
 abbrev pub hasse_of : List ℕ → List Given → Option Settings
 hasse_of file options = if are_among [] options then Some (Hasse file) else None
 
+-- `demo` takes a number in place of a file.
+abbrev pub demo_of : List ℕ → List Given → Option Settings
+demo_of text options =
+    if are_among (codes "workers" ∷ codes "store" ∷ []) options
+    then option_and_then (λ n. option_and_then (λ workers. option_map (λ places. Demo n workers places) (places_in options)) (workers_in options)) (number 20 0 (2 ^ 64 - 1) text)
+    else None
+
 -- a command, its word and its options
 abbrev pub command_of : List ℕ → List ℕ → List Given → Option Settings
 command_of command word options =
@@ -158,7 +165,9 @@ command_of command word options =
     then rank_of word options
     else if bytes_eq command (codes "bases")
     then bases_of word options
-    else if bytes_eq command (codes "hasse") then hasse_of word options else None
+    else if bytes_eq command (codes "hasse")
+    then hasse_of word options
+    else if bytes_eq command (codes "demo") then demo_of word options else None
 
 -- a command and one word for it, with its options
 abbrev pub asked_by : List (List ℕ) → List Given → Option Settings
@@ -170,13 +179,23 @@ asked_by (command ∷ word ∷ other ∷ words) options = None
 unfoldable pub settings_of : List (List ℕ) → Option Settings
 settings_of words = option_and_then (λ cut. asked_by cut.positional cut.options) (cut_of words)
 
--- the file that a command reads
+-- the file that a command reads, and no name where it reads none
 abbrev pub file_of : Settings → List ℕ
 file_of (Typology file workers places schedule) = file
 file_of (Torder file workers places) = file
 file_of (Rank file faith) = file
 file_of (Bases file) = file
 file_of (Hasse file) = file
+file_of (Demo number workers places) = []
+
+-- the number of the demonstration file that a command makes, where it reads no file
+abbrev pub made_of : Settings → Option ℕ
+made_of (Typology file workers places schedule) = None
+made_of (Torder file workers places) = None
+made_of (Rank file faith) = None
+made_of (Bases file) = None
+made_of (Hasse file) = None
+made_of (Demo number workers places) = Some number
 
 -- the numbers of the settings are within their limits
 abbrev pub IsWithinLimits : Settings → Type 0
@@ -185,6 +204,7 @@ IsWithinLimits (Torder file workers places) = (1 ≤ workers) × (workers ≤ 64
 IsWithinLimits (Rank file faith) = ⊤
 IsWithinLimits (Bases file) = ⊤
 IsWithinLimits (Hasse file) = ⊤
+IsWithinLimits (Demo number workers places) = (1 ≤ workers) × (workers ≤ 64) × (places ≤ 4096)
 
 -- what the words ask for, if they give settings
 abbrev pub asked : List (String Global) → Option Settings

@@ -1,5 +1,5 @@
 ghost use Rattle.std.specs.Prelude.{◌≡◌, IfOk};
-ghost use Rattle.command_words.specs.Words.{file_of};
+ghost use Rattle.command_words.specs.Words.{file_of, made_of};
 
 use erc_vectors::{ConId, List, NoMemory};
 use std::alloc::Global;
@@ -24,10 +24,9 @@ impl FileName {
     pub fn of(alloc: Global, text: &str) -> Result<FileName, NoMemory>
         ensures { IfOk result (λ name. name ≡ text.now) }
     {
-        match String::from_str(alloc, text) {
-            Ok(text) => Ok(FileName { text }),
-            Err(_) => Err(NoMemory),
-        }
+        Ok(FileName {
+            text: String::from_str(alloc, text)?,
+        })
     }
 
     /// The bytes of the name.
@@ -69,10 +68,16 @@ pub enum Settings {
     Hasse {
         file: FileName,
     },
+    /// A summary of the demonstration file of a number, which is made and searched as a file of `Typology` is.
+    Demo {
+        number: u64,
+        workers: usize,
+        places: usize,
+    },
 }
 
 impl Settings {
-    /// The file that is read.
+    /// The file that is read, and no name where none is.
     pub fn file(&self) -> &str
         ensures { result.now ≡ file_of self.now }
     {
@@ -82,6 +87,21 @@ impl Settings {
             Settings::Rank { file, .. } => file.as_str(),
             Settings::Bases { file } => file.as_str(),
             Settings::Hasse { file } => file.as_str(),
+            Settings::Demo { .. } => "",
+        }
+    }
+
+    /// The number of the demonstration file that is made, where no file is read.
+    pub fn made(&self) -> Option<u64>
+        ensures { result ≡ made_of self.now }
+    {
+        match self {
+            Settings::Typology { .. } => None,
+            Settings::Torder { .. } => None,
+            Settings::Rank { .. } => None,
+            Settings::Bases { .. } => None,
+            Settings::Hasse { .. } => None,
+            Settings::Demo { number, .. } => Some(*number),
         }
     }
 }

@@ -14,10 +14,10 @@ use std::alloc::Global;
 /// The settings that the words after the program's name give: a command, the word that it takes, and its options, in any order.
 ///
 /// A word that begins with two dashes is an option. Its value follows an equals sign, or is the next word, which must not begin
-/// with a dash. The first word `--` makes all later words positional. Each command takes a file. `typology` and `torder` take the
-/// options `--workers` (1 to 64, or else 1) and `--store` (0 to 4,096, or else 1,024), `typology` takes `--schedule` (0 to
-/// 2^64 - 1), and `rank` takes `--faith`, a list of
-/// constraints: numbers from 1 to 128, each of 1 to 3 digits, with one comma between two. `bases` and `hasse` take no option.
+/// with a dash. The first word `--` makes all later words positional. `demo` takes a number from 0 to 2^64 - 1, and each other
+/// command a file. `typology`, `torder` and `demo` take the options `--workers` (1 to 64, or else 1) and `--store` (0 to 4,096, or
+/// else 1,024), `typology` takes `--schedule` (0 to 2^64 - 1), and `rank` takes `--faith`, a list of constraints: numbers from 1 to
+/// 128, each of 1 to 3 digits, with one comma between two. `bases` and `hasse` take no option.
 ///
 /// Bad comes where there is another number of positional words, an unknown command, an option that the command does not take
 /// or that is given twice, a value that is missing, is no such list, or is not 1 to 20 digits in the range, and where a word before
@@ -62,6 +62,7 @@ fn command_of(
         "rank" => rank_of(alloc, word, options),
         "bases" => bases_of(alloc, word, options),
         "hasse" => hasse_of(alloc, word, options),
+        "demo" => demo_of(word, options),
         _ => Err(WordsError::Bad),
     }
 }
@@ -134,6 +135,24 @@ fn hasse_of(alloc: Global, file: &str, options: &[GivenOption]) -> Result<Settin
     }
     Ok(Settings::Hasse {
         file: FileName::of(alloc, file)?,
+    })
+}
+
+fn demo_of(word: &str, options: &[GivenOption]) -> Result<Settings, WordsError>
+    ensures given { IfOk result (λ settings. words_of.demo_of word.now (map lines.given options.now) ≡ Some settings) }
+    ensures bad { result ≡ Err WordsError.Bad → words_of.demo_of word.now (map lines.given options.now) ≡ None }
+    ensures within { IfOk result (λ settings. words_of.IsWithinLimits settings) }
+{
+    if !are_among(options, &["workers", "store"]) {
+        return Err(WordsError::Bad);
+    }
+    let Some(number) = number_of(word, 20, 0, u64::MAX) else {
+        return Err(WordsError::Bad);
+    };
+    Ok(Settings::Demo {
+        number,
+        workers: workers_in(options)?,
+        places: places_in(options)?,
     })
 }
 

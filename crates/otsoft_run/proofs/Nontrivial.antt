@@ -1,17 +1,16 @@
 -- The conditions of a set that have both W and L.
-use Rattle.std.proofs.Common.{◌≡◌, ◌≢◌, ℕ, Bool, true, false, not, List, [], ◌∷◌, length, refl, sym, ◌∙◌, ap, subst, inl, inr, arith}
-use Rattle.std.specs.Prelude.{filter, All, IsTrue, ◌==◌}
-use Rattle.std.specs.List.{list_all, list_any}
-use Rattle.std.proofs.lemmas.Bool.{and_parts, cases_Bool, ne_eqb}
+use Rattle.std.proofs.Common.{◌≡◌, ℕ, Bool, true, false, not, List, [], ◌∷◌, length, refl, sym, ◌∙◌, ap, subst, inl, inr, arith}
+use Rattle.std.specs.Prelude.{filter, All, IsTrue}
+use Rattle.std.specs.List.{list_all}
+use Rattle.std.proofs.lemmas.Bool.{and_parts, cases_Bool}
 use Rattle.std.proofs.lemmas.List.Elements.{All-head, All-filter, filter_passes}
 use Rattle.ot_theory.specs.declared.Mark.{Mark}
-use Rattle.ot_theory.specs.Conditions.{is_loss, is_win, width_of}
+use Rattle.ot_theory.specs.Conditions.{width_of, has_both}
 use Rattle.ot_theory.specs.Refutations.{no_ranking_keeps}
 use Rattle.ot_theory.proofs.Sets.{IsPart, no_ranking_keeps-more}
 use Rattle.ot_theory.proofs.Enumeration.{any-ranking}
 use Rattle.ot_theory.proofs.Orders.{IsRanking-numbers}
 use Rattle.ot_theory.specs.Rankings.{numbers_below}
-use Rattle.fusional_reduction.specs.Nodes.{has_both}
 
 -- some conditions of a set are a part of it
 filtered-part : (test : List Mark → Bool) (set : List (List Mark)) → IsPart (filter test set) set
@@ -59,11 +58,3 @@ both-widths n set widths = same_widths n (filter has_both set) (All-filter has_b
 
 pub both-both : (set : List (List Mark)) → All (λ marks. IsTrue (has_both marks)) (filter has_both set)
 both-both set = filter_passes has_both set
-
--- Whether a condition has both W and L, from the masks of its W's and its L's: there are some W's ..
-pub some_wins : (w l : ℕ) (marks : List Mark) → list_any is_win marks ≡ not (w == 0) → list_any is_loss marks ≡ not (l == 0) → w ≢ 0 → not (l == 0) ≡ has_both marks
-some_wins w l marks p q some = rw (p, q, ne_eqb w 0 some) refl
-
--- .. or none.
-pub no_wins : (w : ℕ) (marks : List Mark) → list_any is_win marks ≡ not (w == 0) → w ≡ 0 → not (w == 0) ≡ has_both marks
-no_wins w marks p none = rw (p, none) refl

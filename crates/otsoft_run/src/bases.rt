@@ -3,7 +3,7 @@
 ghost use Rattle.std.specs.Prelude.{◌≡◌, IfOk, IsTrue, codes, filter};
 ghost use Rattle.ot_base.specs.Tableaus.{problem_of};
 ghost use Rattle.ot_theory.specs.Refutations.{is_contradicted};
-ghost use Rattle.fusional_reduction.specs.Nodes.{has_both};
+ghost use Rattle.ot_theory.specs.Conditions.{has_both};
 ghost use Rattle.otsoft_run.specs.Answers.{IsWinnersReport, IsBasesReport, is_written, status_by};
 
 use crate::contradicted::contradiction_report;
@@ -45,16 +45,9 @@ fn with_both(alloc: Global, set: &[Condition]) -> Result<List<Condition>, NoMemo
 {
     let mut list = List::new(alloc);
     for condition in set {
-        if has_both(condition) {
+        if condition.has_both() {
             list.push(*condition)?;
         }
     }
     Ok(list)
-}
-
-/// Whether a condition has both W and L.
-fn has_both(condition: &Condition) -> bool
-    ensures { result ≡ has_both condition.now }
-{
-    condition.w_mask() != 0 && condition.l_mask() != 0
 }

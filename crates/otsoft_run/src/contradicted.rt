@@ -2,7 +2,7 @@
 
 ghost use Rattle.std.specs.Prelude.{◌≡◌, true, IfOk, IsTrue};
 ghost use Rattle.ot_base.specs.Tableaus.{problem_of};
-ghost use Rattle.ot_theory.specs.Refutations.{is_contradicted, one_winner_each, terms_of_winners};
+ghost use Rattle.ot_theory.specs.Refutations.{certificate_of, is_contradicted, is_contradiction, one_winner_each, terms_of_winners};
 ghost use Rattle.refutation.specs.Terms.{are_terms, terms_in};
 ghost use Rattle.otsoft_run.specs.Answers.{IsContradictionReport};
 
@@ -10,7 +10,7 @@ use crate::judging::Posed;
 use crate::report::Report;
 use crate::status::Status;
 use erc_vectors::NoMemory;
-use refutation::{Term, core_of};
+use refutation::{Contradiction, Term, core_of};
 use report_text::contradiction_text;
 use std::alloc::Global;
 
@@ -30,8 +30,24 @@ pub(crate) fn contradiction_report(
     ensures status { IfOk result (λ report. report.status ≡ Status.Contradictory) }
 {
     let core = core_of(alloc, &posed.problem, terms)?;
+    certificate_report(alloc, posed, command, &core)
+}
+
+/// The same where the certificate is at hand.
+pub(crate) fn certificate_report(
+    alloc: Global,
+    posed: &Posed,
+    command: &str,
+    core: &Contradiction,
+) -> Result<Report, NoMemory>
+    requires poses { posed.now.problem ≡ problem_of posed.now.tableau }
+    requires certificate { terms_in core.now.terms ≡ certificate_of posed.now.problem (terms_of_winners posed.now.problem) }
+    requires genuine { IsTrue (is_contradiction posed.now.problem (terms_in core.now.terms)) }
+    ensures report { IfOk result (λ report. IsContradictionReport command.now posed.now report.text) }
+    ensures status { IfOk result (λ report. report.status ≡ Status.Contradictory) }
+{
     Ok(Report {
-        text: contradiction_text(alloc, &posed.tableau, &posed.problem, command, &core)?,
+        text: contradiction_text(alloc, &posed.tableau, &posed.problem, command, core)?,
         status: Status::Contradictory,
     })
 }

@@ -7,13 +7,12 @@ ghost use Rattle.ot_theory.specs.Refutations.{is_contradicted};
 ghost use Rattle.otsoft_run.specs.Answers.{IsRankReport, is_written, status_by};
 
 use crate::bias::{BiasedRanking, biased_ranking};
-use crate::contradicted::contradiction_report;
+use crate::contradicted::{certificate_report, contradiction_report};
 use crate::judging::Posed;
 use crate::report::Report;
 use crate::status::Status;
-use demotion::least_hierarchy;
 use erc_vectors::{ConId, NoMemory};
-use refutation::{conditions_of, winner_terms};
+use refutation::{Finding, conditions_of, judge_terms, winner_terms};
 use report_text::rank_text;
 use std::alloc::Global;
 
@@ -28,12 +27,12 @@ pub(crate) fn rank_report(alloc: Global, posed: &Posed) -> Result<Report, NoMemo
     let (tableau, problem) = (&posed.tableau, &posed.problem);
     let terms = winner_terms(alloc, problem)?;
     let set = conditions_of(alloc, problem, terms.as_slice())?;
-    match least_hierarchy(problem.constraints(), set.as_slice()) {
-        Some(strata) => Ok(Report {
+    match judge_terms(alloc, problem, terms.as_slice(), set)? {
+        Finding::Holds(strata) => Ok(Report {
             text: rank_text(alloc, tableau, problem, &strata, None)?,
             status: Status::Done,
         }),
-        None => contradiction_report(alloc, posed, "rank", terms.as_slice()),
+        Finding::Refuted(core) => certificate_report(alloc, posed, "rank", &core),
     }
 }
 

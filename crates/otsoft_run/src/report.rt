@@ -7,6 +7,7 @@ ghost use Rattle.command_words.specs.Words.{IsWithinLimits};
 ghost use Rattle.otsoft_run.specs.Answers.{IsReport, is_written, written_status};
 
 use crate::bases::bases_report;
+use crate::demo::demo_report;
 use crate::hasse::hasse_report;
 use crate::judging::Posed;
 use crate::ranking::{biased_report, rank_report};
@@ -57,5 +58,9 @@ pub(crate) fn report_of(
         },
         Settings::Bases { .. } => bases_report(alloc, posed),
         Settings::Hasse { .. } => hasse_report(alloc, posed),
+        Settings::Demo { number, places, .. } => Ok(Report {
+            text: demo_report(alloc, posed, *number, *places)?,
+            status: Status::Done,
+        }),
     }
 }

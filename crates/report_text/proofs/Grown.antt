@@ -45,6 +45,3 @@ fields field xs = flat_map (λ text. 9 ∷ text) (map field xs)
 
 pub fields-push : {X : Type 0} (field : X → List ℕ) (xs : List X) (x : X) → fields field (xs ++ x ∷ []) ≡ fields field xs ++ (9 ∷ field x)
 fields-push field xs x = rw (map-append, flat_map-append, append-nil) refl
-
-pub fields_more : (field : ℕ → List ℕ) (xs : List ℕ) (k : ℕ) → k < length xs → fields field (take (k + 1) xs) ≡ fields field (take k xs) ++ (9 ∷ field (get_or xs k 0))
-fields_more field xs k below = rw (take_more xs k 0 below) (fields-push field (take k xs) (get_or xs k 0))

@@ -1,4 +1,3 @@
-pub mod Examples
 pub mod Genuine
 pub mod Grown
 pub mod Posed
@@ -16,4 +15,4 @@ pub mod TypologyLines
 pub mod ReadBack
 pub mod NoGaps
 pub mod TrueTypologies
-pub mod PrintableExamples
+pub mod Examples

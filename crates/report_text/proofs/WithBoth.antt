@@ -1,25 +1,15 @@
 -- Conditions that have both W and L, and the terms that stand for them.
-use Rattle.std.proofs.Common.{◌≡◌, ℕ, Bool, true, inl, inr, List, [], ◌∷◌, filter, refl, sym, ◌∙◌}
-use Rattle.std.specs.List.{list_all, list_any}
-use Rattle.std.specs.Prelude.{not, ◌==◌, ◌≢◌}
-use Rattle.std.proofs.lemmas.Bool.{and_parts, cases_Bool, ne_eqb}
+use Rattle.std.proofs.Common.{◌≡◌, Bool, true, inl, inr, List, [], ◌∷◌, filter, refl, sym, ◌∙◌}
+use Rattle.std.specs.List.{list_all}
+use Rattle.std.proofs.lemmas.Bool.{and_parts, cases_Bool}
 use Rattle.std.proofs.lemmas.List.Folds.{list_all-map}
-use Rattle.fusional_reduction.specs.Nodes.{has_both}
-use Rattle.ot_theory.specs.declared.Mark.{Mark}
-use Rattle.ot_theory.specs.Conditions.{is_win, is_loss}
+use Rattle.ot_theory.specs.Conditions.{has_both}
 use Rattle.ot_theory.specs.Languages.{condition_of}
 use Rattle.ot_theory.specs.Problems.{Problem}
 use Rattle.ot_theory.specs.Refutations.{is_term}
 use Rattle.refutation.specs.declared.term.Term.{Term}
 use Rattle.refutation.specs.Terms.{are_terms, term_of, terms_in}
 use Rattle.report_text.specs.Listings.{with_both}
-
--- by the masks of the W's and of the L's
-pub both-by_masks : (w l : ℕ) (marks : List Mark) → list_any is_win marks ≡ not (w == 0) → list_any is_loss marks ≡ not (l == 0) → w ≢ 0 → not (l == 0) ≡ has_both marks
-both-by_masks w l marks p q some = rw (p, q, ne_eqb w 0 some) refl
-
-pub no_wins : (w : ℕ) (marks : List Mark) → list_any is_win marks ≡ not (w == 0) → w ≡ 0 → not (w == 0) ≡ has_both marks
-no_wins w marks p none = rw (p, none) refl
 
 all-kept : {X : Type 0} (p q : X → Bool) (xs : List X) → list_all p xs ≡ true → list_all p (filter q xs) ≡ true
 all-kept p q [] h = refl

@@ -1,4 +1,5 @@
 pub mod Spelling
+pub mod Summary
 pub mod Reports
 pub mod Listings
 pub mod Printable

@@ -3,7 +3,7 @@
 use Rattle.std.specs.Prelude.{ℕ, ◌+◌, ◌<◌, List, [], ◌∷◌, ◌++◌, length, slice_index_or, decimal, codes, flat_map, filter}
 use Rattle.std.specs.List.{enumerate_from, zip}
 use Rattle.erc_vectors.specs.declared.cover.Cover.{Cover}
-use Rattle.fusional_reduction.specs.Nodes.{has_both}
+use Rattle.ot_theory.specs.Conditions.{has_both}
 use Rattle.ot_base.specs.declared.tableau.Tableau.{Tableau}
 use Rattle.ot_theory.specs.declared.Mark.{Mark}
 use Rattle.ot_theory.specs.Languages.{Term, condition_of}

@@ -1,7 +1,6 @@
 //! The report of the command `bases`.
 
 ghost use Rattle.std.specs.Prelude.{◌≡◌, ◌++◌, length, IsTrue, IfOk, OnOk};
-ghost use Rattle.fusional_reduction.specs.Nodes.{has_both};
 ghost use Rattle.ot_base.specs.Tableaus.{problem_of};
 ghost use Rattle.ot_theory.specs.Refutations.{is_term};
 ghost use Rattle.refutation.specs.Terms.{are_terms, term_of, terms_in};
@@ -55,18 +54,11 @@ fn with_both(alloc: Global, p: &Problem, terms: &[Term]) -> Result<List<Term>, N
 {
     let mut kept = List::new(alloc);
     for term in terms {
-        if has_both(&condition_of(p, term)) {
+        if condition_of(p, term).has_both() {
             kept.push(*term)?;
         }
     }
     Ok(kept)
-}
-
-/// Whether a condition has both W and L.
-fn has_both(condition: &Condition) -> bool
-    ensures { result ≡ has_both condition.now }
-{
-    condition.w_mask() != 0 && condition.l_mask() != 0
 }
 
 /// The number of terms, and a line for the condition of each.

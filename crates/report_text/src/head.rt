@@ -31,7 +31,8 @@ pub(crate) fn put_head(
     Ok(())
 }
 
-fn put_title(text: &mut Text, command: &[u8]) -> Result<(), NoMemory>
+/// The line that a report begins with.
+pub(crate) fn put_title(text: &mut Text, command: &[u8]) -> Result<(), NoMemory>
     ensures { OnOk result (text.new ≡ text.old ++ reports.title command.now) }
 {
     text.put(b"otsoft report 1")?;

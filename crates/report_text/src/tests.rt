@@ -1,60 +1,15 @@
-ghost use Rattle.std.specs.Prelude.{◌≡◌, ◌<◌, ◌≤◌, length, IfOk, All};
-ghost use Rattle.ot_base.specs.Acceptable.{IsRow, AreRows, IsAcceptable};
-ghost use Rattle.ot_base.specs.declared.limits.TheConstants.{CANDIDATE_LIMIT};
+ghost use Rattle.std.specs.Prelude.{◌≡◌, ◌<◌, length, IfOk, All};
+ghost use Rattle.ot_base.specs.Acceptable.{AreRows, IsAcceptable};
 
 use crate::{bases_text, contradiction_text, hasse_text, rank_text, torder_text, typology_text};
 use erc_vectors::{ConId, Condition, Cover, List, Mark, NoMemory, Strata};
 use fusional_reduction::Bases;
-use ot_base::{CandidateRow, ClassId, InId, InputRows, Label, Tableau};
+use ot_base::{ClassId, InId, InputRows, Tableau, input_of, tableau_of};
 use refutation::{Contradiction, Cut, Implication, Language, Prefix, Term, Typology, is_genuine};
 use std::alloc::Global;
 use std::process::Abort;
 use std::test::Fail;
 use violation_profiles::Problem;
-
-/// A candidate's text, its count and its violations of three constraints.
-type Row = (&'static str, u64, [u8; 3]);
-
-fn row(alloc: Global, row: &Row) -> Result<CandidateRow, NoMemory>
-    ensures { IfOk result (λ row. IsRow 3 row) }
-{
-    let mut violations = List::new(alloc);
-    for violation in &row.2 {
-        violations.push(u32::from(*violation))?;
-    }
-    Ok(CandidateRow {
-        text: Label::of(alloc, row.0.as_bytes())?,
-        count: row.1,
-        violations,
-        line: 3,
-    })
-}
-
-/// An input of this text and these candidates.
-fn input(alloc: Global, text: &str, rows: &[Row]) -> Result<InputRows, NoMemory>
-    requires some { 1 ≤ length rows.now }
-    requires few { length rows.now ≤ CANDIDATE_LIMIT }
-    ensures { IfOk result (λ input. AreRows 3 input) }
-{
-    let mut candidates = List::new(alloc);
-    for candidate in rows {
-        candidates.push(row(alloc, candidate)?)?;
-    }
-    Ok(InputRows {
-        text: Label::of(alloc, text.as_bytes())?,
-        candidates,
-    })
-}
-
-fn labels(alloc: Global, texts: &[&str; 3]) -> Result<List<Label>, NoMemory>
-    ensures { IfOk result (λ labels. length labels ≡ 3) }
-{
-    let mut labels = List::new(alloc);
-    for text in texts {
-        labels.push(Label::of(alloc, text.as_bytes())?)?;
-    }
-    Ok(labels)
-}
 
 /// A tableau of three constraints and two inputs.
 fn tableau(
@@ -72,11 +27,7 @@ fn tableau(
     let mut inputs = List::new(alloc);
     inputs.push(first)?;
     inputs.push(second)?;
-    Ok(Tableau {
-        names: labels(alloc, names)?,
-        abbrevs: labels(alloc, abbrevs)?,
-        inputs,
-    })
+    tableau_of(alloc, names, abbrevs, inputs)
 }
 
 fn strata(rt: &impl Abort, levels: &[u8; 3]) -> Strata
@@ -118,8 +69,8 @@ fn chain(alloc: Global) -> Result<Tableau, NoMemory>
     ensures names { IfOk result (λ tableau. length tableau.names ≡ 3) }
 {
     let names = ["A", "B", "C"];
-    let x = input(alloc, "x", &[("p", 1, [0, 1, 0]), ("q", 0, [1, 0, 0])])?;
-    let y = input(alloc, "y", &[("r", 1, [0, 0, 1]), ("s", 0, [0, 1, 0])])?;
+    let x = input_of(alloc, "x", &[("p", 1, [0, 1, 0]), ("q", 0, [1, 0, 0])])?;
+    let y = input_of(alloc, "y", &[("r", 1, [0, 0, 1]), ("s", 0, [0, 1, 0])])?;
     tableau(alloc, &names, &names, x, y)
 }
 
@@ -197,8 +148,8 @@ fn codas(alloc: Global) -> Result<Tableau, NoMemory>
         ("ta", 1, [0, 1, 0]),
         ("ta.ki", 0, [0, 0, 1]),
     ];
-    let first = input(alloc, "pat", &pat)?;
-    let second = input(alloc, "tak", &tak)?;
+    let first = input_of(alloc, "pat", &pat)?;
+    let second = input_of(alloc, "tak", &tak)?;
     tableau(alloc, &names, &names, first, second)
 }
 
@@ -264,12 +215,12 @@ const UNCOUNTED_REPORT: &str =
 fn a_stratum_of_two_and_an_input_without_a_winner(rt: HostRuntime) -> Result<(), Fail> {
     let names = ["NoVoice", "Ident, voice", "Max"];
     let alloc = rt.alloc();
-    let bad = input(
+    let bad = input_of(
         alloc,
         "bad",
         &[("bat", 0, [1, 12, 0]), ("bad", 7, [2, 0, 0])],
     )?;
-    let pa = input(alloc, "pa", &[("pa", 0, [0, 0, 0]), ("p", 0, [0, 0, 0])])?;
+    let pa = input_of(alloc, "pa", &[("pa", 0, [0, 0, 0]), ("p", 0, [0, 0, 0])])?;
     let tableau = tableau(alloc, &names, &["NV", "Id", "Max"], bad, pa)?;
     let problem = Problem::of(alloc, &tableau)?;
     let strata = strata(&rt, &[2, 1, 1]);
@@ -316,8 +267,8 @@ fn cuts(alloc: Global, prefixes: &[[u16; 2]; 2]) -> Result<List<Cut>, NoMemory>
 fn a_certificate_that_two_cuts_name(rt: HostRuntime) -> Result<(), Fail> {
     let names = ["NoCoda", "Max", "Dep"];
     let alloc = rt.alloc();
-    let pat = input(alloc, "pat", &[("pat", 1, [1, 0, 0]), ("pa", 0, [0, 1, 0])])?;
-    let ku = input(alloc, "ku", &[("ku", 1, [0, 0, 0]), ("kut", 0, [1, 0, 0])])?;
+    let pat = input_of(alloc, "pat", &[("pat", 1, [1, 0, 0]), ("pa", 0, [0, 1, 0])])?;
+    let ku = input_of(alloc, "ku", &[("ku", 1, [0, 0, 0]), ("kut", 0, [1, 0, 0])])?;
     let tableau = tableau(alloc, &names, &names, pat, ku)?;
     let problem = Problem::of(alloc, &tableau)?;
     let mut terms = List::new(alloc);

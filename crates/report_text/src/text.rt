@@ -64,9 +64,28 @@ impl Text {
         if n < 10 {
             return self.byte(b'0' + n as u8);
         }
+        self.long_number(n)
+    }
+
+    /// The same for a number that mostly has more than one digit.
+    #[inline(never)]
+    fn long_number(&mut self, n: usize) -> Result<(), NoMemory>
+        ensures { OnOk result (self.new ≡ self.old ++ decimal n) }
+    {
         let mut buffer = Buffer::new();
         let digits = buffer.format(n);
         self.put(digits.as_bytes())
+    }
+
+    /// A byte and a number in decimal. Most numbers have one digit, which is put together with the byte.
+    fn byte_and_number(&mut self, byte: u8, n: usize) -> Result<(), NoMemory>
+        ensures { OnOk result (self.new ≡ self.old ++ byte ∷ decimal n) }
+    {
+        if n < 10 {
+            return self.put(&[byte, b'0' + n as u8]);
+        }
+        self.byte(byte)?;
+        self.long_number(n)
     }
 
     /// What stands before an item of a list, unless it is the first.
@@ -80,10 +99,11 @@ impl Text {
     pub(crate) fn spaced_number(&mut self, first: bool, n: usize) -> Result<(), NoMemory>
         ensures { OnOk result (self.new ≡ self.old ++ ((if first then [] else 32 ∷ []) ++ decimal n)) }
     {
-        if !first {
-            self.byte(b' ')?;
+        if first {
+            self.number(n)
+        } else {
+            self.byte_and_number(b' ', n)
         }
-        self.number(n)
     }
 
     /// A tab and a text.
@@ -98,8 +118,7 @@ impl Text {
     pub(crate) fn number_field(&mut self, n: usize) -> Result<(), NoMemory>
         ensures { OnOk result (self.new ≡ self.old ++ 9 ∷ decimal n) }
     {
-        self.put(b"\t")?;
-        self.number(n)
+        self.byte_and_number(b'\t', n)
     }
 
     /// A tab, and an input and a class of it by their numbers.

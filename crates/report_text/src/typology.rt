@@ -1,6 +1,6 @@
 //! The report of a factorial typology: its languages, and what shows that the other choices are none.
 
-ghost use Rattle.std.specs.Prelude.{◌≡◌, ◌∷◌, ◌++◌, ◌*◌, ◌<◌, ◌≤◌, length, take, All, IsTrue, IfOk, OnOk};
+ghost use Rattle.std.specs.Prelude.{◌≡◌, ◌∷◌, ◌++◌, ◌*◌, ◌<◌, ◌≤◌, length, take, true, All, IsTrue, IfOk, OnOk};
 ghost use Rattle.ot_base.specs.Tableaus.{problem_of};
 ghost use Rattle.refutation.specs.Prefixes.{class_numbers};
 ghost use Rattle.refutation.specs.Terms.{are_terms, terms_in};
@@ -160,7 +160,7 @@ fn put_few(text: &mut Text, few: &[ClassId]) -> Result<(), NoMemory>
     requires { length few.now ≤ FEW }
     ensures { OnOk result (text.new ≡ text.old ++ behind_spaces (class_numbers few.now)) }
 {
-    if few.iter().all(|class| class.0 < 9) {
+    if are_digits(few) {
         let bytes = digits_behind_spaces(few);
         return text.put(&bytes[..2 * few.len()]);
     }
@@ -168,6 +168,17 @@ fn put_few(text: &mut Text, few: &[ClassId]) -> Result<(), NoMemory>
         text.spaced_number(false, class.0 as usize + 1)?;
     }
     Ok(())
+}
+
+/// Whether the numbers of all of these classes have one digit. The greatest is found by a walk to the end, many at a time.
+fn are_digits(few: &[ClassId]) -> bool
+    ensures { result ≡ true → All (λ class. class.0 < 9) few.now }
+{
+    let mut greatest = 0;
+    for class in few {
+        greatest = class.0.max(greatest);
+    }
+    greatest < 9
 }
 
 /// The numbers of a few classes, each of one digit behind a space.

@@ -1,7 +1,7 @@
 -- those of the conditions so far, and those of the rest behind them
 use Rattle.std.proofs.Common.{◌≡◌, ◌++◌, drop}
 use Rattle.std.specs.Prelude.{filter}
-use Rattle.fusional_reduction.specs.Nodes.{has_both}
+use Rattle.ot_theory.specs.Conditions.{has_both}
 use Rattle.otsoft_run.proofs.bases.with_both.Given as goal
 
 abbrev pub invariant-loop-condition : goal.invariant-loop-condition

@@ -1,6 +1,6 @@
-use Rattle.std.proofs.Common.{refl, sym, subst, ◌∙◌}
+use Rattle.std.proofs.Common.{sym, subst, ◌∙◌}
 use Rattle.command_words.specs.declared.settings.Settings.{Settings}
-use Rattle.otsoft_run.specs.Answers.{SaysRefused, refusal_of}
+use Rattle.otsoft_run.specs.Answers.{ReadsNothing, SaysRefused, refusal_of}
 use Rattle.command_words.specs.Words.{file_of}
 use Rattle.otsoft_run.proofs.Asked.{same_settings}
 use Rattle.otsoft_run.proofs.top_call.run.Goals as goal
@@ -15,7 +15,23 @@ returns-in-Err-Refused-clause-err_refused g c = λ is settings asked.
     (sym same)
     (record {
       refusal = refusal_of (file_of own) c.in-Err-Refused.refusal;
-      file = refl;
+      file = c.in-Err-Refused.ensures.refused_file c.in-Err-Refused.refusal (cc);
       line = rw (← c.file-in-Err-Refused.ensures) (c.refuse.ensures.refused is);
       judges = λ verdict judges. sym judges.2 ∙ c.in-Err-Refused.ensures.refused c.in-Err-Refused.refusal (cc) judges.0 judges.1;
     })
+
+pub returns-in-Err-Refused-clause-nothing_read : goal.returns-in-Err-Refused-clause-nothing_read
+returns-in-Err-Refused-clause-nothing_read g c = λ settings asked nothing.
+    c.pose.ensures.untouched (subst (λ (s : Settings). ReadsNothing s) (same_settings _ settings _ c.in-Ok.ensures.given asked) nothing)
+
+pub returns-in-Err-NoMemory-pose-clause-nothing_read : goal.returns-in-Err-NoMemory-pose-clause-nothing_read
+returns-in-Err-NoMemory-pose-clause-nothing_read g c = λ settings asked nothing.
+    c.pose.ensures.untouched (subst (λ (s : Settings). ReadsNothing s) (same_settings _ settings _ c.in-Ok.ensures.given asked) nothing)
+
+pub returns-in_default-report_of-clause-nothing_read : goal.returns-in_default-report_of-clause-nothing_read
+returns-in_default-report_of-clause-nothing_read g c = λ settings asked nothing.
+    c.pose.ensures.untouched (subst (λ (s : Settings). ReadsNothing s) (same_settings _ settings _ c.in-Ok.ensures.given asked) nothing)
+
+pub returns-clause-nothing_read : goal.returns-clause-nothing_read
+returns-clause-nothing_read g c = λ settings asked nothing.
+    c.pose.ensures.untouched (subst (λ (s : Settings). ReadsNothing s) (same_settings _ settings _ c.in-Ok.ensures.given asked) nothing)
