@@ -1,124 +1,256 @@
-use crate::outside::{Outside, difference, run_on};
+//! Faults of files, of the output and of the fault output, and files that are refused.
+
 use crate::reports::CODA;
+use erc_vectors::NoMemory;
+use memory_runs::{Outside, Part, run_on};
 use otsoft_run::Status;
+use std::alloc::Global;
 use std::test::Fail;
 
-const WORDS: [&str; 2] = ["typology", "a.txt"];
+const WORDS: &str = "typology a.txt";
 
 const UNREAD: &[u8] = b"otsoft: a.txt could not be read\n";
 
 const UNWRITTEN: &[u8] = b"otsoft: the output could not be written\n";
 
-/// Two inputs, and in line 5 a violation that is no number.
-const BAD_VIOLATION: &[u8] = b"\t\t\tNoCoda\tMax\tDep\n\
-        \t\t\tNoCoda\tMax\tDep\n\
-        pat\tpat\t1\t1\t0\t0\n\
-        \tpa\t0\t0\t1\t0\n\
-        \tpa.ti\t0\t0\t0\t2x\n\
-        tak\ttak\t1\t1\t0\t0\n\
-        \tta\t0\t0\t1\t0\n\
-        \tta.ki\t0\t0\t0\t1\n";
-
-/// The same, with a count besides that is no number.
-const BAD_COUNT: &[u8] = b"\t\t\tNoCoda\tMax\tDep\n\
-        \t\t\tNoCoda\tMax\tDep\n\
-        pat\tpat\t1\t1\t0\t0\n\
-        \tpa\t0\t0\t1\t0\n\
-        \tpa.ti\t1.\t0\t0\t2x\n\
-        tak\ttak\t1\t1\t0\t0\n\
-        \tta\t0\t0\t1\t0\n\
-        \tta.ki\t0\t0\t0\t1\n";
-
 /// A file of 79 bytes, in pieces of 8: an open, ten reads of bytes and one of the end may fail.
+fn unread_difference(alloc: Global, call: u64) -> Result<Option<Part>, NoMemory> {
+    let outside = Outside {
+        read_piece: 8,
+        read_fails: &[call],
+        ..Outside::sound("a.txt", CODA.file.as_bytes())
+    };
+    let left = run_on(alloc, WORDS, &outside)?;
+    let report = CODA.report.as_bytes();
+    Ok(if call < 13 {
+        left.difference(Status::ReadFault, &[], UNREAD)
+    } else {
+        left.difference(Status::Done, &[report], b"")
+    })
+}
+
 #[test]
 fn each_call_of_the_files_may_fail(rt: HostRuntime) -> Result<(), Fail> {
-    let alloc = rt.alloc();
     for call in 1..=13 {
-        let case = format!(in alloc; "call {call}")?;
-        let outside = Outside {
-            read_piece: 8,
-            read_fails: &[call],
-            ..Outside::sound("a.txt", CODA.file.as_bytes())
-        };
-        let want = if call < 13 {
-            (Status::ReadFault, &b""[..], UNREAD)
-        } else {
-            (Status::Done, CODA.report.as_bytes(), &b""[..])
-        };
-        let found = difference(rt.alloc(), &WORDS, &outside, want)?;
-        assert_eq!(rt; found, None, "{case}");
+        let found = unread_difference(rt.alloc(), call)?;
+        assert_eq!(rt; found, None, "call {call}");
     }
     Ok(())
 }
 
-/// A report in pieces of 16.
+/// A report in pieces of 16, of which that many are taken before one fails.
+fn unwritten_difference(alloc: Global, taken: u64) -> Result<Option<Part>, NoMemory> {
+    let report = CODA.report.as_bytes();
+    let outside = Outside {
+        write_piece: 16,
+        write_fails: &[taken.saturating_add(1)],
+        ..Outside::sound("a.txt", CODA.file.as_bytes())
+    };
+    let left = run_on(alloc, WORDS, &outside)?;
+    let length = (taken as usize).saturating_mul(16);
+    Ok(if length < report.len() {
+        left.difference(Status::WriteFault, &[&report[..length]], UNWRITTEN)
+    } else {
+        left.difference(Status::Done, &[report], b"")
+    })
+}
+
 #[test]
 fn each_write_may_fail(rt: HostRuntime) -> Result<(), Fail> {
-    let alloc = rt.alloc();
-    let report = CODA.report.as_bytes();
-    let writes = report.len().div_ceil(16) as u64;
-    for call in 1..=writes + 1 {
-        let case = format!(in alloc; "write {call}")?;
-        let outside = Outside {
-            write_piece: 16,
-            write_fails: &[call],
-            ..Outside::sound("a.txt", CODA.file.as_bytes())
-        };
-        let length = report.len().min((call as usize - 1).saturating_mul(16));
-        let want = if call <= writes {
-            (Status::WriteFault, &report[..length], UNWRITTEN)
-        } else {
-            (Status::Done, report, &b""[..])
-        };
-        let found = difference(rt.alloc(), &WORDS, &outside, want)?;
-        assert_eq!(rt; found, None, "{case}");
+    let writes = CODA.report.len().div_ceil(16) as u64;
+    for taken in 0..=writes {
+        let found = unwritten_difference(rt.alloc(), taken)?;
+        assert_eq!(rt; found, None, "{taken} writes");
     }
     Ok(())
 }
 
-/// The status stays, and the front of the line that the fault output took, in pieces of 8.
+/// A run whose fault output fails at a write, in pieces of 8.
+#[derive(Clone, Copy)]
+struct Untold {
+    name: &'static str,
+    words: &'static str,
+    write: u64,
+    status: Status,
+    taken: &'static str,
+}
+
+const UNTOLD: [Untold; 5] = [
+    Untold {
+        name: "bad words, nothing taken",
+        words: "frob",
+        write: 1,
+        status: Status::BadWords,
+        taken: "",
+    },
+    Untold {
+        name: "a refusal, nothing taken",
+        words: "typology a.txt",
+        write: 1,
+        status: Status::Refused,
+        taken: "",
+    },
+    Untold {
+        name: "no file, nothing taken",
+        words: "rank b",
+        write: 1,
+        status: Status::ReadFault,
+        taken: "",
+    },
+    Untold {
+        name: "bad words, a part taken",
+        words: "frob",
+        write: 2,
+        status: Status::BadWords,
+        taken: "usage: o",
+    },
+    Untold {
+        name: "a refusal, a part taken",
+        words: "typology a.txt",
+        write: 2,
+        status: Status::Refused,
+        taken: "a.txt:3:",
+    },
+];
+
+fn untold_difference(alloc: Global, row: &Untold) -> Result<Option<Part>, NoMemory> {
+    let outside = Outside {
+        err_piece: 8,
+        err_fails: &[row.write],
+        ..Outside::sound("a.txt", b"\t\t\tA")
+    };
+    let left = run_on(alloc, row.words, &outside)?;
+    Ok(left.difference(row.status, &[], row.taken.as_bytes()))
+}
+
+fn first_untold(alloc: Global, rows: &[Untold]) -> Result<Option<(&'static str, Part)>, NoMemory> {
+    for row in rows {
+        if let Some(part) = untold_difference(alloc, row)? {
+            return Ok(Some((row.name, part)));
+        }
+    }
+    Ok(None)
+}
+
+/// The status stays, and the front of the line that the fault output took.
 #[test]
 fn a_fault_of_the_fault_output_changes_no_status(rt: HostRuntime) -> Result<(), Fail> {
-    let rows: [(&str, &[&str], u64, Status, &[u8]); 5] = [
-        (
-            "bad words, nothing taken",
-            &["frob"],
-            1,
-            Status::BadWords,
-            b"",
-        ),
-        ("a refusal, nothing taken", &WORDS, 1, Status::Refused, b""),
-        (
-            "no file, nothing taken",
-            &["rank", "b"],
-            1,
-            Status::ReadFault,
-            b"",
-        ),
-        (
-            "bad words, a part taken",
-            &["frob"],
-            2,
-            Status::BadWords,
-            b"usage: o",
-        ),
-        (
-            "a refusal, a part taken",
-            &WORDS,
-            2,
-            Status::Refused,
-            b"a.txt:3:",
-        ),
-    ];
-    for (case, words, write, status, err) in &rows {
-        let outside = Outside {
-            err_piece: 8,
-            err_fails: &[*write],
-            ..Outside::sound("a.txt", b"\t\t\tA")
-        };
-        let found = difference(rt.alloc(), words, &outside, (*status, &b""[..], err))?;
-        assert_eq!(rt; found, None, "{case}");
+    let found = first_untold(rt.alloc(), &UNTOLD)?;
+    assert_eq!(rt; found, None);
+    Ok(())
+}
+
+/// A file with a fault, and the line that tells the first one.
+#[derive(Clone, Copy)]
+struct Refused {
+    name: &'static str,
+    file: &'static str,
+    line: &'static str,
+}
+
+const REFUSED: [Refused; 11] = [
+    Refused {
+        name: "a.txt",
+        file: "",
+        line: "a.txt:1: F2 NoConstraints\n",
+    },
+    Refused {
+        name: "a.txt",
+        file: "\t\t\tA\t\tC\n\nx\tp",
+        line: "a.txt:1: F3 EmptyName\n",
+    },
+    Refused {
+        name: "a.txt",
+        file: "\t\t\tA\n\t\t\tA\tB\nx\tp",
+        line: "a.txt:2: F5 ExtraCell\n",
+    },
+    Refused {
+        name: "a.txt",
+        file: "\t\t\tA\n\n\tx",
+        line: "a.txt:3: F6 NoInput\n",
+    },
+    Refused {
+        name: "a.txt",
+        file: "\t\t\tA\n\nx",
+        line: "a.txt:3: F7 EmptyCandidate\n",
+    },
+    Refused {
+        name: "b.txt",
+        file: "\t\t\tNoCoda\tMax\tDep\n\
+            \t\t\tNoCoda\tMax\tDep\n\
+            pat\tpat\t1\t1\t0\t0\n\
+            \tpa\t0\t0\t1\t0\n\
+            \tpa.ti\t0\t0\t0\t2x\n\
+            tak\ttak\t1\t1\t0\t0\n\
+            \tta\t0\t0\t1\t0\n\
+            \tta.ki\t0\t0\t0\t1\n",
+        line: "b.txt:5: F9 BadViolation\n",
+    },
+    Refused {
+        name: "b.txt",
+        file: "\t\t\tNoCoda\tMax\tDep\n\
+            \t\t\tNoCoda\tMax\tDep\n\
+            pat\tpat\t1\t1\t0\t0\n\
+            \tpa\t0\t0\t1\t0\n\
+            \tpa.ti\t1.\t0\t0\t2x\n\
+            tak\ttak\t1\t1\t0\t0\n\
+            \tta\t0\t0\t1\t0\n\
+            \tta.ki\t0\t0\t0\t1\n",
+        line: "b.txt:5: F8 BadCount\n",
+    },
+    Refused {
+        name: "a.txt",
+        file: "\t\t\tA\n\n\r\nx\tp\t1.\t2x",
+        line: "a.txt:4: F8 BadCount\n",
+    },
+    Refused {
+        name: "a.txt",
+        file: "\t\t\tA\n\nx\tp\t1\t2x\t3",
+        line: "a.txt:3: F9 BadViolation\n",
+    },
+    Refused {
+        name: "a.txt",
+        file: "\t\t\tA\n\nx\tp\t1\t2\t3",
+        line: "a.txt:3: F5 ExtraCell\n",
+    },
+    Refused {
+        name: "a.txt",
+        file: "\t\t\tA",
+        line: "a.txt:3: F12 NoRows\n",
+    },
+];
+
+fn refused_difference(
+    alloc: Global,
+    name: &str,
+    file: &[u8],
+    line: &str,
+) -> Result<Option<Part>, NoMemory> {
+    let words = format!(in alloc; "typology {name}")?;
+    let left = run_on(alloc, words.as_str(), &Outside::sound(name, file))?;
+    Ok(left.difference(Status::Refused, &[], line.as_bytes()))
+}
+
+fn first_unrefused(
+    alloc: Global,
+    rows: &[Refused],
+) -> Result<Option<(&'static str, Part)>, NoMemory> {
+    for row in rows {
+        if let Some(part) = refused_difference(alloc, row.name, row.file.as_bytes(), row.line)? {
+            return Ok(Some((row.line, part)));
+        }
     }
+    Ok(None)
+}
+
+/// Files with a fault, each with the first one.
+#[test]
+fn refused_files_are_told(rt: HostRuntime) -> Result<(), Fail> {
+    let found = first_unrefused(rt.alloc(), &REFUSED)?;
+    assert_eq!(rt; found, None);
+    let line = "u.txt:1: F1 Utf16\n";
+    let found = refused_difference(rt.alloc(), "u.txt", b"\xff\xfe\t\0A\0", line)?;
+    assert_eq!(rt; found, None, "two bytes a letter");
     Ok(())
 }
 
@@ -126,58 +258,13 @@ fn a_fault_of_the_fault_output_changes_no_status(rt: HostRuntime) -> Result<(), 
 #[test]
 fn missing_files_are_told(rt: HostRuntime) -> Result<(), Fail> {
     let outside = Outside::sound("a.txt", b"");
-    for (case, name, line) in [
-        ("another name", "b.txt", "otsoft: b.txt could not be read\n"),
-        ("an empty name", "", "otsoft:  could not be read\n"),
+    for (words, line) in [
+        ("typology b.txt", "otsoft: b.txt could not be read\n"),
+        ("typology ", "otsoft:  could not be read\n"),
     ] {
-        let want = (Status::ReadFault, &b""[..], line.as_bytes());
-        let found = difference(rt.alloc(), &["typology", name], &outside, want)?;
-        assert_eq!(rt; found, None, "{case}");
-    }
-    Ok(())
-}
-
-/// Files with a fault, each with the first one.
-#[test]
-fn refused_files_are_told(rt: HostRuntime) -> Result<(), Fail> {
-    let rows: [(&str, &[u8], &str); 12] = [
-        ("u.txt", b"\xff\xfe\t\0A\0", "u.txt:1: F1 Utf16\n"),
-        ("a.txt", b"", "a.txt:1: F2 NoConstraints\n"),
-        ("a.txt", b"\t\t\tA\t\tC\n\nx\tp", "a.txt:1: F3 EmptyName\n"),
-        (
-            "a.txt",
-            b"\t\t\tA\n\t\t\tA\tB\nx\tp",
-            "a.txt:2: F5 ExtraCell\n",
-        ),
-        ("a.txt", b"\t\t\tA\n\n\tx", "a.txt:3: F6 NoInput\n"),
-        ("a.txt", b"\t\t\tA\n\nx", "a.txt:3: F7 EmptyCandidate\n"),
-        ("b.txt", BAD_VIOLATION, "b.txt:5: F9 BadViolation\n"),
-        ("b.txt", BAD_COUNT, "b.txt:5: F8 BadCount\n"),
-        (
-            "a.txt",
-            b"\t\t\tA\n\
-        \n\
-        \r\n\
-        x\tp\t1.\t2x",
-            "a.txt:4: F8 BadCount\n",
-        ),
-        (
-            "a.txt",
-            b"\t\t\tA\n\nx\tp\t1\t2x\t3",
-            "a.txt:3: F9 BadViolation\n",
-        ),
-        (
-            "a.txt",
-            b"\t\t\tA\n\nx\tp\t1\t2\t3",
-            "a.txt:3: F5 ExtraCell\n",
-        ),
-        ("a.txt", b"\t\t\tA", "a.txt:3: F12 NoRows\n"),
-    ];
-    for (name, file, line) in &rows {
-        let outside = Outside::sound(name, file);
-        let want = (Status::Refused, &b""[..], line.as_bytes());
-        let found = difference(rt.alloc(), &["typology", name], &outside, want)?;
-        assert_eq!(rt; found, None, "{line}");
+        let left = run_on(rt.alloc(), words, &outside)?;
+        let found = left.difference(Status::ReadFault, &[], line.as_bytes());
+        assert_eq!(rt; found, None, "{words}");
     }
     Ok(())
 }
@@ -186,7 +273,7 @@ fn refused_files_are_told(rt: HostRuntime) -> Result<(), Fail> {
 #[test]
 fn want_of_memory_leaves_the_output(rt: HostRuntime) -> Result<(), Fail> {
     let outside = Outside::sound("a.txt", CODA.file.as_bytes());
-    let Ok(left) = run_on(rt.alloc(), &WORDS, &outside) else {
+    let Ok(left) = run_on(rt.alloc(), WORDS, &outside) else {
         return Ok(());
     };
     if left.status == Status::NoMemory {

@@ -1,5 +1,9 @@
-use crate::outside::{Outside, difference};
+//! Typologies as whole reports.
+
+use erc_vectors::NoMemory;
+use memory_runs::{Outside, Part, run_on};
 use otsoft_run::Status;
+use std::alloc::Global;
 use std::test::Fail;
 
 /// A strict file and its whole report.
@@ -366,63 +370,69 @@ const LEAST: Row = Row {
         end\n",
 };
 
+const ROWS: [Row; 14] = [
+    CODA,
+    TWO_CODAS,
+    CHAIN,
+    BOUNDED,
+    SYLLABLES,
+    MIDDLE,
+    WORSE,
+    ALIKE,
+    ALONE,
+    CHAIN_LEFT_OUT,
+    SYLLABLES_LEFT_OUT,
+    SPREADSHEET,
+    OLD_MACHINE,
+    LEAST,
+];
+
+/// Searches by several workers, each under a schedule.
+const SCHEDULES: [&str; 9] = [
+    "typology a.txt --schedule=0 --workers 3",
+    "typology a.txt --schedule=1 --workers 3",
+    "typology a.txt --schedule=2 --workers 3",
+    "typology a.txt --schedule=3 --workers=8 --store=0",
+    "typology a.txt --schedule=4 --workers=8 --store=0",
+    "typology a.txt --schedule=5 --workers=8 --store=0",
+    "typology a.txt --schedule=7 --store 1",
+    "typology a.txt --schedule=8 --store 1",
+    "typology a.txt --schedule=9 --store 1",
+];
+
+/// The part in which the run of these words on the row's file is not as it has to be.
+fn difference(alloc: Global, words: &str, row: &Row) -> Result<Option<Part>, NoMemory> {
+    let outside = Outside::sound("a.txt", row.file.as_bytes());
+    let left = run_on(alloc, words, &outside)?;
+    Ok(left.difference(Status::Done, &[row.report.as_bytes()], b""))
+}
+
+/// The first row on whose file the run of these words is not as it has to be, and in what.
+fn first_difference(
+    alloc: Global,
+    words: &str,
+    rows: &[Row],
+) -> Result<Option<(&'static str, Part)>, NoMemory> {
+    for row in rows {
+        if let Some(part) = difference(alloc, words, row)? {
+            return Ok(Some((row.name, part)));
+        }
+    }
+    Ok(None)
+}
+
 #[test]
 fn files_give_their_reports(rt: HostRuntime) -> Result<(), Fail> {
-    let rows = [
-        CODA,
-        TWO_CODAS,
-        CHAIN,
-        BOUNDED,
-        SYLLABLES,
-        MIDDLE,
-        WORSE,
-        ALIKE,
-        ALONE,
-        CHAIN_LEFT_OUT,
-        SYLLABLES_LEFT_OUT,
-        SPREADSHEET,
-        OLD_MACHINE,
-        LEAST,
-    ];
-    for row in &rows {
-        let outside = Outside::sound("a.txt", row.file.as_bytes());
-        let want = (Status::Done, row.report.as_bytes(), &b""[..]);
-        let case = row.name;
-        let found = difference(rt.alloc(), &["typology", "a.txt"], &outside, want)?;
-        assert_eq!(rt; found, None, "{case}");
-    }
+    let found = first_difference(rt.alloc(), "typology a.txt", &ROWS)?;
+    assert_eq!(rt; found, None);
     Ok(())
 }
 
 #[test]
 fn every_schedule_gives_the_same_report(rt: HostRuntime) -> Result<(), Fail> {
-    let rows: [(&[&str], [&str; 3]); 3] = [
-        (
-            &["--workers", "3"],
-            ["--schedule=0", "--schedule=1", "--schedule=2"],
-        ),
-        (
-            &["--workers=8", "--store=0"],
-            ["--schedule=3", "--schedule=4", "--schedule=5"],
-        ),
-        (
-            &["--store", "1"],
-            ["--schedule=7", "--schedule=8", "--schedule=9"],
-        ),
-    ];
-    for row in &[TWO_CODAS, BOUNDED] {
-        let outside = Outside::sound("a.txt", row.file.as_bytes());
-        for (options, schedules) in &rows {
-            for schedule in schedules {
-                let mut words = Vec::new(rt.alloc());
-                words.extend_from_slice(&["typology", "a.txt", schedule])?;
-                words.extend_from_slice(options)?;
-                let want = (Status::Done, row.report.as_bytes(), &b""[..]);
-                let case = row.name;
-                let found = difference(rt.alloc(), words.as_slice(), &outside, want)?;
-                assert_eq!(rt; found, None, "{case}, {schedule}");
-            }
-        }
+    for words in &SCHEDULES {
+        let found = first_difference(rt.alloc(), words, &[TWO_CODAS, BOUNDED])?;
+        assert_eq!(rt; found, None, "{words}");
     }
     Ok(())
 }

@@ -1,4 +1,7 @@
-use crate::outside::{Outside, difference, run_on};
+//! Files of great size, and of each limit.
+
+use erc_vectors::NoMemory;
+use memory_runs::{Left, Outside, Part, run_on};
 use otsoft_run::Status;
 use std::alloc::{AllocError, Global};
 use std::test::Fail;
@@ -77,18 +80,21 @@ fn cut_line(
     write!(report, "{last}\t{number}\n")
 }
 
+/// The part in which the run on such a file is not as it has to be.
+fn difference(alloc: Global, inputs: usize) -> Result<Option<Part>, NoMemory> {
+    let file = two_classes(alloc, inputs)?;
+    let report = two_languages(alloc, inputs)?;
+    let outside = Outside::sound("a.txt", file.as_bytes());
+    let left = run_on(alloc, "typology a.txt", &outside)?;
+    Ok(left.difference(Status::Done, &[report.as_bytes()], b""))
+}
+
 /// Of 65,536 choices, and of many more than could be tried, the search finds the two languages.
 #[test]
 fn many_choices(rt: HostRuntime) -> Result<(), Fail> {
-    let alloc = rt.alloc();
     for inputs in [16, 17, 100] {
-        let case = format!(in alloc; "{inputs} inputs")?;
-        let file = two_classes(alloc, inputs)?;
-        let report = two_languages(alloc, inputs)?;
-        let outside = Outside::sound("a.txt", file.as_bytes());
-        let want = (Status::Done, report.as_bytes(), &b""[..]);
-        let found = difference(rt.alloc(), &["typology", "a.txt"], &outside, want)?;
-        assert_eq!(rt; found, None, "{case}");
+        let found = difference(rt.alloc(), inputs)?;
+        assert_eq!(rt; found, None, "{inputs} inputs");
     }
     Ok(())
 }
@@ -103,20 +109,27 @@ fn long_text(alloc: Global, length: usize) -> Result<String, AllocError> {
     Ok(file)
 }
 
+/// What the run on a file leaves, with room for a long report, where these calls of the files and these writes fail.
+fn run_long(
+    alloc: Global,
+    file: &[u8],
+    read_fails: &[u64],
+    write_fails: &[u64],
+) -> Result<Left, NoMemory> {
+    let outside = Outside {
+        room: 1 << 20,
+        read_fails,
+        write_fails,
+        ..Outside::sound("a.txt", file)
+    };
+    run_on(alloc, "typology a.txt", &outside)
+}
+
 /// All that is left of a report is offered at once: a report of more than 64 KiB needs one write.
 #[test]
 fn a_long_report_is_one_write(rt: HostRuntime) -> Result<(), Fail> {
-    let alloc = rt.alloc();
-    let file = long_text(alloc, 70_000)?;
-    let left = run_on(
-        alloc,
-        &["typology", "a.txt"],
-        &Outside {
-            room: 1 << 20,
-            write_fails: &[2],
-            ..Outside::sound("a.txt", file.as_bytes())
-        },
-    )?;
+    let file = long_text(rt.alloc(), 70_000)?;
+    let left = run_long(rt.alloc(), file.as_bytes(), &[], &[2])?;
     assert_eq!(rt; left.status, Status::Done);
     assert!(rt; left.out.written().len() > 70_000);
     Ok(())
@@ -125,19 +138,10 @@ fn a_long_report_is_one_write(rt: HostRuntime) -> Result<(), Fail> {
 /// A read asks for 65,536 bytes, and a file is read to its end: one of 65,537 bytes takes an open and three reads.
 #[test]
 fn a_file_is_read_to_its_end(rt: HostRuntime) -> Result<(), Fail> {
-    let alloc = rt.alloc();
-    let file = long_text(alloc, 65_520)?;
+    let file = long_text(rt.alloc(), 65_520)?;
     assert_eq!(rt; file.len(), 65_537);
     for (call, status) in [(4, Status::ReadFault), (5, Status::Done)] {
-        let left = run_on(
-            alloc,
-            &["typology", "a.txt"],
-            &Outside {
-                room: 1 << 20,
-                read_fails: &[call],
-                ..Outside::sound("a.txt", file.as_bytes())
-            },
-        )?;
+        let left = run_long(rt.alloc(), file.as_bytes(), &[call], &[])?;
         assert_eq!(rt; left.status, status, "call {call}");
     }
     Ok(())
@@ -159,92 +163,128 @@ fn repeated(
     Ok(bytes)
 }
 
-/// Two inputs of 200 candidates each.
-fn two_full_inputs(alloc: Global) -> Result<Vec<u8>, AllocError> {
-    let mut both = repeated(alloc, b"x\tp\n", b"\tp\n", 199, b"y\tp\n")?;
-    for _ in 0..199 {
-        both.extend_from_slice(b"\tp\n")?;
+/// A file of a start, a part many times, and an end, and the line that refuses it, if any does.
+#[derive(Clone, Copy)]
+struct Limit {
+    name: &'static str,
+    start: &'static [u8],
+    part: &'static [u8],
+    times: usize,
+    end: &'static [u8],
+    line: &'static [u8],
+}
+
+const HEADER: &[u8] = b"\t\t\tA\n\n";
+
+const LIMITS: [Limit; 8] = [
+    Limit {
+        name: "64 constraints",
+        start: b"\t\t",
+        part: b"\tA",
+        times: 64,
+        end: b"\n\nx\tp\n",
+        line: b"",
+    },
+    Limit {
+        name: "65 constraints",
+        start: b"\t\t",
+        part: b"\tA",
+        times: 65,
+        end: b"\n\nx\tp\n",
+        line: b"a.txt:1: F4 TooManyConstraints\n",
+    },
+    Limit {
+        name: "1,000 inputs",
+        start: HEADER,
+        part: b"x\tp\ny\tp\n",
+        times: 500,
+        end: b"",
+        line: b"",
+    },
+    Limit {
+        name: "1,001 inputs",
+        start: HEADER,
+        part: b"x\tp\ny\tp\n",
+        times: 500,
+        end: b"x\tp\n",
+        line: b"a.txt:1003: F10 TooManyInputs\n",
+    },
+    Limit {
+        name: "200 candidates of an input",
+        start: HEADER,
+        part: b"x\tp\n",
+        times: 200,
+        end: b"",
+        line: b"",
+    },
+    Limit {
+        name: "201 candidates of an input",
+        start: HEADER,
+        part: b"x\tp\n",
+        times: 201,
+        end: b"",
+        line: b"a.txt:203: F11 TooManyCandidates\n",
+    },
+    Limit {
+        name: "16,777,216 bytes",
+        start: b"\t\t\tAAAAAAA\n\nx\tp\n",
+        part: b"            ",
+        times: 1_398_100,
+        end: b"",
+        line: b"",
+    },
+    Limit {
+        name: "16,777,217 bytes",
+        start: b"\xFF\xFE",
+        part: b"            ",
+        times: 1_398_100,
+        end: b"ends behind it.",
+        line: b"a.txt:1: F13 TooLong\n",
+    },
+];
+
+/// Whether a file is accepted, or refused with its line.
+fn is_judged(alloc: Global, file: &[u8], line: &[u8]) -> Result<bool, NoMemory> {
+    let left = run_long(alloc, file, &[], &[])?;
+    let is_accepted = left.status == Status::Done;
+    Ok(is_accepted == line.is_empty() && left.err.written() == line)
+}
+
+/// The first file that is not judged so.
+fn first_misjudged(alloc: Global, rows: &[Limit]) -> Result<Option<&'static str>, NoMemory> {
+    for row in rows {
+        let file = repeated(alloc, row.start, row.part, row.times, row.end)?;
+        if !is_judged(alloc, file.as_slice(), row.line)? {
+            return Ok(Some(row.name));
+        }
     }
-    Ok(both)
+    Ok(None)
 }
 
 /// What stands at a limit is accepted, and what stands above it is refused at its line.
 #[test]
 fn limits(rt: HostRuntime) -> Result<(), Fail> {
+    let found = first_misjudged(rt.alloc(), &LIMITS)?;
+    assert_eq!(rt; found, None);
+    Ok(())
+}
+
+/// 100 inputs of 200 candidates each, and then an end.
+fn full_file(alloc: Global, end: &[u8]) -> Result<Vec<u8>, AllocError> {
+    let mut both = repeated(alloc, b"x\tp\n", b"\tp\n", 199, b"")?;
+    let other = repeated(alloc, b"y\tp\n", b"\tp\n", 199, b"")?;
+    both.extend_from_slice(other.as_slice())?;
+    repeated(alloc, HEADER, both.as_slice(), 50, end)
+}
+
+/// 20,000 candidates are accepted, and one more is refused.
+#[test]
+fn limit_of_all_candidates(rt: HostRuntime) -> Result<(), Fail> {
     let alloc = rt.alloc();
-    let full = two_full_inputs(alloc)?;
-    let header: &[u8] = b"\t\t\tA\n\n";
-    let rows: [(&str, &[u8], &[u8], usize, &[u8], &str); 10] = [
-        ("64 constraints", b"\t\t", b"\tA", 64, b"\n\nx\tp\n", ""),
-        (
-            "65 constraints",
-            b"\t\t",
-            b"\tA",
-            65,
-            b"\n\nx\tp\n",
-            "a.txt:1: F4 TooManyConstraints\n",
-        ),
-        ("1,000 inputs", header, b"x\tp\ny\tp\n", 500, b"", ""),
-        (
-            "1,001 inputs",
-            header,
-            b"x\tp\ny\tp\n",
-            500,
-            b"x\tp\n",
-            "a.txt:1003: F10 TooManyInputs\n",
-        ),
-        (
-            "200 candidates of an input",
-            header,
-            b"x\tp\n",
-            200,
-            b"",
-            "",
-        ),
-        (
-            "201 candidates of an input",
-            header,
-            b"x\tp\n",
-            201,
-            b"",
-            "a.txt:203: F11 TooManyCandidates\n",
-        ),
-        ("20,000 candidates", header, full.as_slice(), 50, b"", ""),
-        (
-            "20,001 candidates",
-            header,
-            full.as_slice(),
-            50,
-            b"x\tp\n",
-            "a.txt:20003: F11 TooManyCandidates\n",
-        ),
-        (
-            "16,777,216 bytes",
-            b"\t\t\tAAAAAAA\n\nx\tp\n",
-            &[b' '; 1_200],
-            13_981,
-            b"",
-            "",
-        ),
-        (
-            "16,777,217 bytes",
-            b"\xFF\xFE",
-            &[b' '; 1_200],
-            13_981,
-            b"ends behind it.",
-            "a.txt:1: F13 TooLong\n",
-        ),
-    ];
-    for (case, start, part, times, end, line) in rows {
-        let file = repeated(alloc, start, part, times, end)?;
-        let outside = Outside {
-            room: 1 << 20,
-            ..Outside::sound("a.txt", file.as_slice())
-        };
-        let left = run_on(alloc, &["typology", "a.txt"], &outside)?;
-        let is_accepted = left.status == Status::Done;
-        assert_eq!(rt; is_accepted, line.is_empty(), "{case}");
-        assert!(rt; left.err.written() == line.as_bytes(), "{case}");
-    }
+    let file = full_file(alloc, b"")?;
+    assert!(rt; is_judged(alloc, file.as_slice(), b"")?);
+    let file = full_file(alloc, b"x\tp\n")?;
+    let line = b"a.txt:20003: F11 TooManyCandidates\n";
+    assert!(rt; is_judged(alloc, file.as_slice(), line)?);
     Ok(())
 }
