@@ -184,6 +184,6 @@ const CASES: [Case; 15] = [
 
 #[test]
 fn files_give_their_listings(rt: HostRuntime) -> Result<(), Fail> {
-    assert_eq!(rt; first_difference(rt.alloc(), &CASES)?, None);
+    assert_eq!(rt; first_difference(&rt, rt.alloc(), &CASES)?, None);
     Ok(())
 }

@@ -251,12 +251,12 @@ const BIASES: [Case; 9] = [
 
 #[test]
 fn files_give_their_rankings(rt: HostRuntime) -> Result<(), Fail> {
-    assert_eq!(rt; first_difference(rt.alloc(), &LEAST)?, None);
+    assert_eq!(rt; first_difference(&rt, rt.alloc(), &LEAST)?, None);
     Ok(())
 }
 
 #[test]
 fn files_give_their_biased_rankings(rt: HostRuntime) -> Result<(), Fail> {
-    assert_eq!(rt; first_difference(rt.alloc(), &BIASES)?, None);
+    assert_eq!(rt; first_difference(&rt, rt.alloc(), &BIASES)?, None);
     Ok(())
 }

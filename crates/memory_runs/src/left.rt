@@ -4,15 +4,19 @@ ghost use Rattle.std.specs.Prelude.{◌≡◌, None, IsTrue, flat_map};
 
 use crate::outside::Outside;
 use erc_vectors::NoMemory;
-use ot_base::{Files, MemSink};
+use ot_base::{Files, Gate, MemSink, NoGate};
 use otsoft_run::{Status, run};
 use std::alloc::Global;
+use std::thread::Threads;
+use typology_workers::Found;
 
 /// What a run leaves.
 #[derive(Drop)]
 pub struct Left {
     /// What it answers.
     pub status: Status,
+    /// The search in threads that its report was made from.
+    pub found: Option<Found>,
     /// The output.
     pub out: MemSink,
     /// The fault output.
@@ -65,23 +69,46 @@ fn is_joined(bytes: &[u8], pieces: &[&[u8]]) -> bool
 }
 
 /// Runs words, parted by single blanks.
-pub fn run_on(alloc: Global, words: &str, outside: &Outside) -> Result<Left, NoMemory> {
+pub fn run_on<R: Threads + Sync>(
+    threads: &R,
+    alloc: Global,
+    words: &str,
+    outside: &Outside,
+) -> Result<Left, NoMemory> {
+    run_gated(threads, alloc, words, outside, &NoGate)
+}
+
+/// The same where a gate is told of the turns of a search.
+pub fn run_gated<R: Threads + Sync, G: Gate>(
+    threads: &R,
+    alloc: Global,
+    words: &str,
+    outside: &Outside,
+    gate: &G,
+) -> Result<Left, NoMemory> {
     let words = words_of(alloc, words, ' ')?;
     let mut files = outside.files(alloc)?;
-    run_words(alloc, words.as_slice(), &mut files, outside)
+    run_words(threads, alloc, words.as_slice(), &mut files, outside, gate)
 }
 
 /// Runs words over files of any kind, and the sinks that the outside has.
-pub fn run_words<F: Files>(
+pub fn run_words<R: Threads + Sync, F: Files, G: Gate>(
+    threads: &R,
     alloc: Global,
     words: &[String],
     files: &mut F,
     outside: &Outside,
+    gate: &G,
 ) -> Result<Left, NoMemory> {
     let mut out = outside.out(alloc)?;
     let mut err = outside.err(alloc)?;
-    let status = run(alloc, words, files, &mut out, &mut err);
-    Ok(Left { status, out, err })
+    let ended = run(threads, alloc, words, files, &mut out, &mut err, gate);
+    Ok(Left {
+        status: ended.status,
+        found: ended.found,
+        out,
+        err,
+    })
 }
 
 /// The words of a text that a character parts. A text without it is one word.

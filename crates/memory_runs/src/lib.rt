@@ -5,5 +5,5 @@
 mod left;
 mod outside;
 
-pub use left::{Left, Part, run_on, run_words, words_of};
+pub use left::{Left, Part, run_gated, run_on, run_words, words_of};
 pub use outside::Outside;

@@ -8,6 +8,7 @@ mod files;
 mod sink;
 
 use files::SystemFiles;
+use ot_base::NoGate;
 use otsoft_run::run;
 use sink::SystemSink;
 use std::alloc::AllocError;
@@ -36,6 +37,14 @@ fn main(rt: HostRuntime) -> ExitCode {
     let mut files = SystemFiles::new(&rt);
     let mut out = SystemSink::new(rt.stdout());
     let mut err = SystemSink::new(rt.stderr());
-    let status = run(rt.alloc(), words.as_slice(), &mut files, &mut out, &mut err);
-    ExitCode::from(status.code())
+    let ended = run(
+        &rt,
+        rt.alloc(),
+        words.as_slice(),
+        &mut files,
+        &mut out,
+        &mut err,
+        &NoGate,
+    );
+    ExitCode::from(ended.status.code())
 }

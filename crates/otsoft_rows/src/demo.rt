@@ -5,6 +5,7 @@ use memory_runs::{Outside, Part, run_on};
 use otsoft_run::Status;
 use std::alloc::Global;
 use std::test::Fail;
+use std::thread::Threads;
 
 const USAGE: &[u8] = b"usage: otsoft COMMAND FILE [OPTIONS]\n";
 
@@ -50,21 +51,22 @@ fn closed() -> Outside<'static> {
 }
 
 /// The part in which a run over such files is not as it has to be.
-fn difference(
+fn difference<R: Threads + Sync>(
+    threads: &R,
     alloc: Global,
     words: &str,
     status: Status,
     output: &[u8],
     fault: &[u8],
 ) -> Result<Option<Part>, NoMemory> {
-    let left = run_on(alloc, words, &closed())?;
+    let left = run_on(threads, alloc, words, &closed())?;
     Ok(left.difference(status, &[output], fault))
 }
 
 #[test]
 fn the_file_of_a_number_is_told(rt: HostRuntime) -> Result<(), Fail> {
     for words in &ONE {
-        let found = difference(rt.alloc(), words, Status::Done, OF_ONE, b"")?;
+        let found = difference(&rt, rt.alloc(), words, Status::Done, OF_ONE, b"")?;
         assert_eq!(rt; found, None, "{words}");
     }
     Ok(())
@@ -73,7 +75,7 @@ fn the_file_of_a_number_is_told(rt: HostRuntime) -> Result<(), Fail> {
 #[test]
 fn bad_words_tell_no_file(rt: HostRuntime) -> Result<(), Fail> {
     for words in &BAD {
-        let found = difference(rt.alloc(), words, Status::BadWords, b"", USAGE)?;
+        let found = difference(&rt, rt.alloc(), words, Status::BadWords, b"", USAGE)?;
         assert_eq!(rt; found, None, "{words}");
     }
     Ok(())
@@ -86,7 +88,7 @@ fn a_full_output_is_a_fault(rt: HostRuntime) -> Result<(), Fail> {
         write_fails: &[2],
         ..closed()
     };
-    let left = run_on(rt.alloc(), "demo 1", &outside)?;
+    let left = run_on(&rt, rt.alloc(), "demo 1", &outside)?;
     let found = left.difference(Status::WriteFault, &[b"otsoft report 1\t"], UNWRITTEN);
     assert_eq!(rt; found, None);
     Ok(())

@@ -6,6 +6,7 @@ use memory_runs::{Outside, Part, run_on};
 use otsoft_run::Status;
 use std::alloc::Global;
 use std::test::Fail;
+use std::thread::Threads;
 
 const WORDS: &str = "typology a.txt";
 
@@ -14,13 +15,17 @@ const UNREAD: &[u8] = b"otsoft: a.txt could not be read\n";
 const UNWRITTEN: &[u8] = b"otsoft: the output could not be written\n";
 
 /// A file of 79 bytes, in pieces of 8: an open, ten reads of bytes and one of the end may fail.
-fn unread_difference(alloc: Global, call: u64) -> Result<Option<Part>, NoMemory> {
+fn unread_difference<R: Threads + Sync>(
+    threads: &R,
+    alloc: Global,
+    call: u64,
+) -> Result<Option<Part>, NoMemory> {
     let outside = Outside {
         read_piece: 8,
         read_fails: &[call],
         ..Outside::sound("a.txt", CODA.file.as_bytes())
     };
-    let left = run_on(alloc, WORDS, &outside)?;
+    let left = run_on(threads, alloc, WORDS, &outside)?;
     let report = CODA.report.as_bytes();
     Ok(if call < 13 {
         left.difference(Status::ReadFault, &[], UNREAD)
@@ -32,21 +37,25 @@ fn unread_difference(alloc: Global, call: u64) -> Result<Option<Part>, NoMemory>
 #[test]
 fn each_call_of_the_files_may_fail(rt: HostRuntime) -> Result<(), Fail> {
     for call in 1..=13 {
-        let found = unread_difference(rt.alloc(), call)?;
+        let found = unread_difference(&rt, rt.alloc(), call)?;
         assert_eq!(rt; found, None, "call {call}");
     }
     Ok(())
 }
 
 /// A report in pieces of 16, of which that many are taken before one fails.
-fn unwritten_difference(alloc: Global, taken: u64) -> Result<Option<Part>, NoMemory> {
+fn unwritten_difference<R: Threads + Sync>(
+    threads: &R,
+    alloc: Global,
+    taken: u64,
+) -> Result<Option<Part>, NoMemory> {
     let report = CODA.report.as_bytes();
     let outside = Outside {
         write_piece: 16,
         write_fails: &[taken.saturating_add(1)],
         ..Outside::sound("a.txt", CODA.file.as_bytes())
     };
-    let left = run_on(alloc, WORDS, &outside)?;
+    let left = run_on(threads, alloc, WORDS, &outside)?;
     let length = (taken as usize).saturating_mul(16);
     Ok(if length < report.len() {
         left.difference(Status::WriteFault, &[&report[..length]], UNWRITTEN)
@@ -59,7 +68,7 @@ fn unwritten_difference(alloc: Global, taken: u64) -> Result<Option<Part>, NoMem
 fn each_write_may_fail(rt: HostRuntime) -> Result<(), Fail> {
     let writes = CODA.report.len().div_ceil(16) as u64;
     for taken in 0..=writes {
-        let found = unwritten_difference(rt.alloc(), taken)?;
+        let found = unwritten_difference(&rt, rt.alloc(), taken)?;
         assert_eq!(rt; found, None, "{taken} writes");
     }
     Ok(())
@@ -113,19 +122,27 @@ const UNTOLD: [Untold; 5] = [
     },
 ];
 
-fn untold_difference(alloc: Global, row: &Untold) -> Result<Option<Part>, NoMemory> {
+fn untold_difference<R: Threads + Sync>(
+    threads: &R,
+    alloc: Global,
+    row: &Untold,
+) -> Result<Option<Part>, NoMemory> {
     let outside = Outside {
         err_piece: 8,
         err_fails: &[row.write],
         ..Outside::sound("a.txt", b"\t\t\tA")
     };
-    let left = run_on(alloc, row.words, &outside)?;
+    let left = run_on(threads, alloc, row.words, &outside)?;
     Ok(left.difference(row.status, &[], row.taken.as_bytes()))
 }
 
-fn first_untold(alloc: Global, rows: &[Untold]) -> Result<Option<(&'static str, Part)>, NoMemory> {
+fn first_untold<R: Threads + Sync>(
+    threads: &R,
+    alloc: Global,
+    rows: &[Untold],
+) -> Result<Option<(&'static str, Part)>, NoMemory> {
     for row in rows {
-        if let Some(part) = untold_difference(alloc, row)? {
+        if let Some(part) = untold_difference(threads, alloc, row)? {
             return Ok(Some((row.name, part)));
         }
     }
@@ -135,7 +152,7 @@ fn first_untold(alloc: Global, rows: &[Untold]) -> Result<Option<(&'static str, 
 /// The status stays, and the front of the line that the fault output took.
 #[test]
 fn a_fault_of_the_fault_output_changes_no_status(rt: HostRuntime) -> Result<(), Fail> {
-    let found = first_untold(rt.alloc(), &UNTOLD)?;
+    let found = first_untold(&rt, rt.alloc(), &UNTOLD)?;
     assert_eq!(rt; found, None);
     Ok(())
 }
@@ -220,23 +237,31 @@ const REFUSED: [Refused; 11] = [
     },
 ];
 
-fn refused_difference(
+fn refused_difference<R: Threads + Sync>(
+    threads: &R,
     alloc: Global,
     name: &str,
     file: &[u8],
     line: &str,
 ) -> Result<Option<Part>, NoMemory> {
     let words = format!(in alloc; "typology {name}")?;
-    let left = run_on(alloc, words.as_str(), &Outside::sound(name, file))?;
+    let left = run_on(threads, alloc, words.as_str(), &Outside::sound(name, file))?;
     Ok(left.difference(Status::Refused, &[], line.as_bytes()))
 }
 
-fn first_unrefused(
+fn first_unrefused<R: Threads + Sync>(
+    threads: &R,
     alloc: Global,
     rows: &[Refused],
 ) -> Result<Option<(&'static str, Part)>, NoMemory> {
     for row in rows {
-        if let Some(part) = refused_difference(alloc, row.name, row.file.as_bytes(), row.line)? {
+        if let Some(part) = refused_difference(
+            threads,
+            alloc,
+            row.name,
+            row.file.as_bytes(),
+            row.line,
+        )? {
             return Ok(Some((row.line, part)));
         }
     }
@@ -246,10 +271,10 @@ fn first_unrefused(
 /// Files with a fault, each with the first one.
 #[test]
 fn refused_files_are_told(rt: HostRuntime) -> Result<(), Fail> {
-    let found = first_unrefused(rt.alloc(), &REFUSED)?;
+    let found = first_unrefused(&rt, rt.alloc(), &REFUSED)?;
     assert_eq!(rt; found, None);
     let line = "u.txt:1: F1 Utf16\n";
-    let found = refused_difference(rt.alloc(), "u.txt", b"\xff\xfe\t\0A\0", line)?;
+    let found = refused_difference(&rt, rt.alloc(), "u.txt", b"\xff\xfe\t\0A\0", line)?;
     assert_eq!(rt; found, None, "two bytes a letter");
     Ok(())
 }
@@ -262,7 +287,7 @@ fn missing_files_are_told(rt: HostRuntime) -> Result<(), Fail> {
         ("typology b.txt", "otsoft: b.txt could not be read\n"),
         ("typology ", "otsoft:  could not be read\n"),
     ] {
-        let left = run_on(rt.alloc(), words, &outside)?;
+        let left = run_on(&rt, rt.alloc(), words, &outside)?;
         let found = left.difference(Status::ReadFault, &[], line.as_bytes());
         assert_eq!(rt; found, None, "{words}");
     }
@@ -273,7 +298,7 @@ fn missing_files_are_told(rt: HostRuntime) -> Result<(), Fail> {
 #[test]
 fn want_of_memory_leaves_the_output(rt: HostRuntime) -> Result<(), Fail> {
     let outside = Outside::sound("a.txt", CODA.file.as_bytes());
-    let Ok(left) = run_on(rt.alloc(), WORDS, &outside) else {
+    let Ok(left) = run_on(&rt, rt.alloc(), WORDS, &outside) else {
         return Ok(());
     };
     if left.status == Status::NoMemory {

@@ -5,6 +5,7 @@ use memory_runs::{Outside, Part, run_on};
 use otsoft_run::Status;
 use std::alloc::Global;
 use std::test::Fail;
+use std::thread::Threads;
 
 /// A strict file and its whole report.
 #[derive(Clone, Copy)]
@@ -401,20 +402,26 @@ const SCHEDULES: [&str; 9] = [
 ];
 
 /// The part in which the run of these words on the row's file is not as it has to be.
-fn difference(alloc: Global, words: &str, row: &Row) -> Result<Option<Part>, NoMemory> {
+fn difference<R: Threads + Sync>(
+    threads: &R,
+    alloc: Global,
+    words: &str,
+    row: &Row,
+) -> Result<Option<Part>, NoMemory> {
     let outside = Outside::sound("a.txt", row.file.as_bytes());
-    let left = run_on(alloc, words, &outside)?;
+    let left = run_on(threads, alloc, words, &outside)?;
     Ok(left.difference(Status::Done, &[row.report.as_bytes()], b""))
 }
 
 /// The first row on whose file the run of these words is not as it has to be, and in what.
-fn first_difference(
+fn first_difference<R: Threads + Sync>(
+    threads: &R,
     alloc: Global,
     words: &str,
     rows: &[Row],
 ) -> Result<Option<(&'static str, Part)>, NoMemory> {
     for row in rows {
-        if let Some(part) = difference(alloc, words, row)? {
+        if let Some(part) = difference(threads, alloc, words, row)? {
             return Ok(Some((row.name, part)));
         }
     }
@@ -423,7 +430,7 @@ fn first_difference(
 
 #[test]
 fn files_give_their_reports(rt: HostRuntime) -> Result<(), Fail> {
-    let found = first_difference(rt.alloc(), "typology a.txt", &ROWS)?;
+    let found = first_difference(&rt, rt.alloc(), "typology a.txt", &ROWS)?;
     assert_eq!(rt; found, None);
     Ok(())
 }
@@ -431,7 +438,7 @@ fn files_give_their_reports(rt: HostRuntime) -> Result<(), Fail> {
 #[test]
 fn every_schedule_gives_the_same_report(rt: HostRuntime) -> Result<(), Fail> {
     for words in &SCHEDULES {
-        let found = first_difference(rt.alloc(), words, &[TWO_CODAS, BOUNDED])?;
+        let found = first_difference(&rt, rt.alloc(), words, &[TWO_CODAS, BOUNDED])?;
         assert_eq!(rt; found, None, "{words}");
     }
     Ok(())

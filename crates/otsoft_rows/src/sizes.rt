@@ -5,6 +5,7 @@ use memory_runs::{Left, Outside, Part, run_on};
 use otsoft_run::Status;
 use std::alloc::{AllocError, Global};
 use std::test::Fail;
+use std::thread::Threads;
 
 /// A strict file of as many inputs, each with a class for each of two constraints.
 fn two_classes(alloc: Global, inputs: usize) -> Result<String, AllocError> {
@@ -81,11 +82,15 @@ fn cut_line(
 }
 
 /// The part in which the run on such a file is not as it has to be.
-fn difference(alloc: Global, inputs: usize) -> Result<Option<Part>, NoMemory> {
+fn difference<R: Threads + Sync>(
+    threads: &R,
+    alloc: Global,
+    inputs: usize,
+) -> Result<Option<Part>, NoMemory> {
     let file = two_classes(alloc, inputs)?;
     let report = two_languages(alloc, inputs)?;
     let outside = Outside::sound("a.txt", file.as_bytes());
-    let left = run_on(alloc, "typology a.txt", &outside)?;
+    let left = run_on(threads, alloc, "typology a.txt", &outside)?;
     Ok(left.difference(Status::Done, &[report.as_bytes()], b""))
 }
 
@@ -93,7 +98,7 @@ fn difference(alloc: Global, inputs: usize) -> Result<Option<Part>, NoMemory> {
 #[test]
 fn many_choices(rt: HostRuntime) -> Result<(), Fail> {
     for inputs in [16, 17, 100] {
-        let found = difference(rt.alloc(), inputs)?;
+        let found = difference(&rt, rt.alloc(), inputs)?;
         assert_eq!(rt; found, None, "{inputs} inputs");
     }
     Ok(())
@@ -110,7 +115,8 @@ fn long_text(alloc: Global, length: usize) -> Result<String, AllocError> {
 }
 
 /// What the run on a file leaves, with room for a long report, where these calls of the files and these writes fail.
-fn run_long(
+fn run_long<R: Threads + Sync>(
+    threads: &R,
     alloc: Global,
     file: &[u8],
     read_fails: &[u64],
@@ -122,14 +128,14 @@ fn run_long(
         write_fails,
         ..Outside::sound("a.txt", file)
     };
-    run_on(alloc, "typology a.txt", &outside)
+    run_on(threads, alloc, "typology a.txt", &outside)
 }
 
 /// All that is left of a report is offered at once: a report of more than 64 KiB needs one write.
 #[test]
 fn a_long_report_is_one_write(rt: HostRuntime) -> Result<(), Fail> {
     let file = long_text(rt.alloc(), 70_000)?;
-    let left = run_long(rt.alloc(), file.as_bytes(), &[], &[2])?;
+    let left = run_long(&rt, rt.alloc(), file.as_bytes(), &[], &[2])?;
     assert_eq!(rt; left.status, Status::Done);
     assert!(rt; left.out.written().len() > 70_000);
     Ok(())
@@ -141,7 +147,7 @@ fn a_file_is_read_to_its_end(rt: HostRuntime) -> Result<(), Fail> {
     let file = long_text(rt.alloc(), 65_520)?;
     assert_eq!(rt; file.len(), 65_537);
     for (call, status) in [(4, Status::ReadFault), (5, Status::Done)] {
-        let left = run_long(rt.alloc(), file.as_bytes(), &[call], &[])?;
+        let left = run_long(&rt, rt.alloc(), file.as_bytes(), &[call], &[])?;
         assert_eq!(rt; left.status, status, "call {call}");
     }
     Ok(())
@@ -244,17 +250,26 @@ const LIMITS: [Limit; 8] = [
 ];
 
 /// Whether a file is accepted, or refused with its line.
-fn is_judged(alloc: Global, file: &[u8], line: &[u8]) -> Result<bool, NoMemory> {
-    let left = run_long(alloc, file, &[], &[])?;
+fn is_judged<R: Threads + Sync>(
+    threads: &R,
+    alloc: Global,
+    file: &[u8],
+    line: &[u8],
+) -> Result<bool, NoMemory> {
+    let left = run_long(threads, alloc, file, &[], &[])?;
     let is_accepted = left.status == Status::Done;
     Ok(is_accepted == line.is_empty() && left.err.written() == line)
 }
 
 /// The first file that is not judged so.
-fn first_misjudged(alloc: Global, rows: &[Limit]) -> Result<Option<&'static str>, NoMemory> {
+fn first_misjudged<R: Threads + Sync>(
+    threads: &R,
+    alloc: Global,
+    rows: &[Limit],
+) -> Result<Option<&'static str>, NoMemory> {
     for row in rows {
         let file = repeated(alloc, row.start, row.part, row.times, row.end)?;
-        if !is_judged(alloc, file.as_slice(), row.line)? {
+        if !is_judged(threads, alloc, file.as_slice(), row.line)? {
             return Ok(Some(row.name));
         }
     }
@@ -264,7 +279,7 @@ fn first_misjudged(alloc: Global, rows: &[Limit]) -> Result<Option<&'static str>
 /// What stands at a limit is accepted, and what stands above it is refused at its line.
 #[test]
 fn limits(rt: HostRuntime) -> Result<(), Fail> {
-    let found = first_misjudged(rt.alloc(), &LIMITS)?;
+    let found = first_misjudged(&rt, rt.alloc(), &LIMITS)?;
     assert_eq!(rt; found, None);
     Ok(())
 }
@@ -282,9 +297,9 @@ fn full_file(alloc: Global, end: &[u8]) -> Result<Vec<u8>, AllocError> {
 fn limit_of_all_candidates(rt: HostRuntime) -> Result<(), Fail> {
     let alloc = rt.alloc();
     let file = full_file(alloc, b"")?;
-    assert!(rt; is_judged(alloc, file.as_slice(), b"")?);
+    assert!(rt; is_judged(&rt, alloc, file.as_slice(), b"")?);
     let file = full_file(alloc, b"x\tp\n")?;
     let line = b"a.txt:20003: F11 TooManyCandidates\n";
-    assert!(rt; is_judged(alloc, file.as_slice(), line)?);
+    assert!(rt; is_judged(&rt, alloc, file.as_slice(), line)?);
     Ok(())
 }

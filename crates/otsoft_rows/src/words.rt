@@ -5,10 +5,11 @@ ghost use Rattle.std.specs.Prelude.{None};
 use crate::reports::CODA;
 use erc_vectors::NoMemory;
 use memory_runs::{Outside, Part, run_on, run_words, words_of};
-use ot_base::{Failed, Files};
+use ot_base::{Failed, Files, NoGate};
 use otsoft_run::Status;
 use std::alloc::Global;
 use std::test::Fail;
+use std::thread::Threads;
 
 /// Files of which none opens, and which count the opens.
 #[derive(Drop)]
@@ -44,18 +45,29 @@ const BAD: [&str; 9] = [
 const USAGE: &[u8] = b"usage: otsoft COMMAND FILE [OPTIONS]\n";
 
 /// How often words open a file, and in what their run is not as that of bad words has to be.
-fn opens_of(alloc: Global, words: &str) -> Result<(u64, Option<Part>), NoMemory> {
+fn opens_of<R: Threads + Sync>(
+    threads: &R,
+    alloc: Global,
+    words: &str,
+) -> Result<(u64, Option<Part>), NoMemory> {
     let words = words_of(alloc, words, ' ')?;
     let mut files = Closed { opens: 0 };
     let outside = Outside::sound("A", b"");
-    let left = run_words(alloc, words.as_slice(), &mut files, &outside)?;
+    let left = run_words(
+        threads,
+        alloc,
+        words.as_slice(),
+        &mut files,
+        &outside,
+        &NoGate,
+    )?;
     Ok((files.opens, left.difference(Status::BadWords, &[], USAGE)))
 }
 
 #[test]
 fn bad_words_open_no_file(rt: HostRuntime) -> Result<(), Fail> {
     for words in &BAD {
-        let (opens, part) = opens_of(rt.alloc(), words)?;
+        let (opens, part) = opens_of(&rt, rt.alloc(), words)?;
         assert_eq!(rt; opens, 0, "{words}");
         assert_eq!(rt; part, None, "{words}");
     }
@@ -75,7 +87,7 @@ const SOUND: [&str; 6] = [
 fn options_change_no_report(rt: HostRuntime) -> Result<(), Fail> {
     let outside = Outside::sound("A", CODA.file.as_bytes());
     for words in &SOUND {
-        let left = run_on(rt.alloc(), words, &outside)?;
+        let left = run_on(&rt, rt.alloc(), words, &outside)?;
         let part = left.difference(Status::Done, &[CODA.report.as_bytes()], b"");
         assert_eq!(rt; part, None, "{words}");
     }

@@ -1,5 +1,5 @@
 -- The demonstration file is accepted, and what is told of it.
-use Rattle.std.proofs.Common.{◌≡◌, ℕ, ◌+◌, ◌≤◌, List, take, take_all, length, map, Ok, Err, sym, ap, ◌∙◌, arith}
+use Rattle.std.proofs.Common.{◌≡◌, ℕ, ◌+◌, List, take, take_all, length, Err, sym, ap, ◌∙◌, arith}
 use Rattle.std.proofs.lemmas.List.{length-map}
 use Rattle.ot_theory.specs.Languages.{IsTypology}
 use Rattle.ot_theory.specs.Refutations.{certificate_named, certificates, cuts}

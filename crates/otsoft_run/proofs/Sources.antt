@@ -1,5 +1,5 @@
 -- What a command judges, by whether it reads a file or makes one.
-use Rattle.std.proofs.Common.{◌≡◌, ℕ, ◌+◌, List, drop, take, Option, Some, None, Result, Ok, Err, refl, sym, ap, subst, ◌∙◌}
+use Rattle.std.proofs.Common.{◌≡◌, ℕ, ◌+◌, List, drop, take, Some, None, Result, Ok, Err, refl, sym, ap, subst, ◌∙◌}
 use Rattle.ot_base.specs.Outside.{FilesTold}
 use Rattle.ot_base.specs.declared.tableau.Tableau.{Tableau}
 use Rattle.tableau_file.specs.Reading.{reading}

@@ -1,73 +1,180 @@
-//! The reports that are made from the languages of a file.
+//! What is answered from the languages of a problem.
 
-ghost use Rattle.std.specs.Prelude.{◌≡◌, ◌≤◌, IfOk, length, map};
+ghost use Rattle.std.specs.Prelude.{◌≡◌, ◌≤◌, IfOk, None, MatchOption, length, map};
 ghost use Rattle.ot_base.specs.Tableaus.{problem_of};
 ghost use Rattle.ot_base.specs.declared.limits.TheConstants.{PLACE_LIMIT};
-ghost use Rattle.ot_theory.specs.Languages.{IsTypology};
-ghost use Rattle.ot_theory.specs.Refutations.{certificate_named, certificates, cuts};
-ghost use Rattle.refutation.specs.Typologies.{certificates_of, cuts_of, found_of};
-ghost use Rattle.search_deeds.specs.Gathered.{AreGenuine, AreNamed};
 ghost use Rattle.search_machine.specs.declared.machine.TheConstants.{WORKER_LIMIT};
-ghost use Rattle.otsoft_run.specs.Answers.{IsTypologyReport, IsTorderReport};
+ghost use Rattle.otsoft_run.specs.declared.status.Status.{Status};
+ghost use Rattle.typology_workers.specs.FoundSearch.{IsTypologyOf};
+ghost use Rattle.otsoft_run.specs.Answers.{IsDemoReport, IsTypologyReport, IsTorderReport};
+ghost use Rattle.otsoft_run.specs.Searched.{IsSearchBy, report_of, summary_of};
 
 use crate::judging::Posed;
+use crate::report::{Answer, Report};
+use crate::status::Status;
+use demonstration_file::FILE_BYTES;
 use erc_vectors::NoMemory;
-use ot_base::Label;
-use report_text::{torder_text, typology_text};
+use ot_base::{Gate, Label};
+use refutation::Typology;
+use report_text::{demo_text, torder_text, typology_text};
 use std::alloc::Global;
+use std::thread::Threads;
 use t_orders::implications;
-use typology_core::{Alone, run_schedule, search_alone};
-use violation_profiles::Problem;
+use typology_core::{run_schedule, search_alone};
+use typology_workers::search;
 
-/// The report of the languages, cuts and certificates of a tableau, found with so many places for contradictions: by one worker,
-/// or by so many workers under the schedule of a number.
-pub(crate) fn typology_report(
+/// The report of the languages, cuts and certificates of a tableau, found with so many places for contradictions by so many workers:
+/// under the schedule of a number, or in threads where they are several.
+pub(crate) fn typology_answer<R: Threads + Sync, G: Gate>(
+    threads: &R,
     alloc: Global,
     posed: &Posed,
     workers: usize,
     places: usize,
     schedule: Option<u64>,
-) -> Result<Label, NoMemory>
+    gate: &G,
+) -> Result<Answer, NoMemory>
     requires some_workers { 1 ≤ workers }
     requires few_workers { workers ≤ WORKER_LIMIT }
     requires few { places ≤ PLACE_LIMIT }
     requires poses { posed.now.problem ≡ problem_of posed.now.tableau }
-    ensures { IfOk result (λ report. IsTypologyReport posed.now report) }
-{
-    let alone = searched(alloc, &posed.problem, workers, places, schedule)?;
-    typology_text(alloc, &posed.tableau, &posed.problem, &alone.typology)
-}
-
-/// The typology of a problem, by so many workers under the schedule of a number if there is one, and else by one worker.
-fn searched(
-    alloc: Global,
-    problem: &Problem,
-    workers: usize,
-    places: usize,
-    schedule: Option<u64>,
-) -> Result<Alone, NoMemory>
-    requires some { 1 ≤ workers }
-    requires few_workers { workers ≤ WORKER_LIMIT }
-    requires few { places ≤ PLACE_LIMIT }
-    ensures languages { IfOk result (λ alone. IsTypology problem.now (found_of alone.typology.languages)) }
-    ensures cuts { IfOk result (λ alone. cuts_of alone.typology.cuts ≡ map (λ cut. (cut, certificate_named problem.now cut)) (cuts problem.now)) }
-    ensures certificates { IfOk result (λ alone. certificates_of alone.typology.certificates ≡ certificates problem.now) }
-    ensures genuine { IfOk result (λ alone. AreGenuine problem.now alone.typology.certificates) }
-    ensures named { IfOk result (λ alone. AreNamed (length alone.typology.certificates) alone.typology.cuts) }
+    ensures report { IfOk result (λ answer. IsTypologyReport posed.now answer.report.text) }
+    ensures status { IfOk result (λ answer. answer.report.status ≡ Status.Done) }
+    ensures search { IfOk result (λ answer. MatchOption schedule
+        (IsSearchBy posed.now.problem workers places (λ typology. answer.report.text ≡ report_of posed.now typology) answer.found)
+        (λ number. answer.found ≡ None)) }
 {
     match schedule {
-        Some(number) => run_schedule(alloc, problem, workers, places, number),
-        None => search_alone(alloc, problem, places),
+        Some(number) => {
+            let alone = run_schedule(alloc, &posed.problem, workers, places, number)?;
+            Ok(Answer {
+                report: done(typology_report(alloc, posed, &alone.typology)?),
+                found: None,
+            })
+        }
+        None if workers == 1 => {
+            let alone = search_alone(alloc, &posed.problem, places)?;
+            Ok(Answer {
+                report: done(typology_report(alloc, posed, &alone.typology)?),
+                found: None,
+            })
+        }
+        None => {
+            let found = search(threads, alloc, &posed.problem, workers, places, gate)?;
+            Ok(Answer {
+                report: done(typology_report(alloc, posed, &found.typology)?),
+                found: Some(found),
+            })
+        }
     }
 }
 
 /// The report of the implications between outputs, which are read off the languages.
-pub(crate) fn torder_report(alloc: Global, posed: &Posed, places: usize) -> Result<Label, NoMemory>
+pub(crate) fn torder_answer<R: Threads + Sync, G: Gate>(
+    threads: &R,
+    alloc: Global,
+    posed: &Posed,
+    workers: usize,
+    places: usize,
+    gate: &G,
+) -> Result<Answer, NoMemory>
+    requires some_workers { 1 ≤ workers }
+    requires few_workers { workers ≤ WORKER_LIMIT }
     requires few { places ≤ PLACE_LIMIT }
     requires poses { posed.now.problem ≡ problem_of posed.now.tableau }
-    ensures { IfOk result (λ report. IsTorderReport posed.now report) }
+    ensures report { IfOk result (λ answer. IsTorderReport posed.now answer.report.text) }
+    ensures status { IfOk result (λ answer. answer.report.status ≡ Status.Done) }
+    ensures search { IfOk result (λ answer. IsSearchBy posed.now.problem workers places (λ typology. IsTorderReport posed.now answer.report.text) answer.found) }
 {
-    let alone = search_alone(alloc, &posed.problem, places)?;
-    let list = implications(alloc, &posed.problem, alone.typology.languages.as_slice())?;
+    if workers == 1 {
+        let alone = search_alone(alloc, &posed.problem, places)?;
+        return Ok(Answer {
+            report: done(torder_report(alloc, posed, &alone.typology)?),
+            found: None,
+        });
+    }
+    let found = search(threads, alloc, &posed.problem, workers, places, gate)?;
+    Ok(Answer {
+        report: done(torder_report(alloc, posed, &found.typology)?),
+        found: Some(found),
+    })
+}
+
+/// The report of what is found in the demonstration file of a number.
+pub(crate) fn demo_answer<R: Threads + Sync, G: Gate>(
+    threads: &R,
+    alloc: Global,
+    posed: &Posed,
+    number: u64,
+    workers: usize,
+    places: usize,
+    gate: &G,
+) -> Result<Answer, NoMemory>
+    requires some_workers { 1 ≤ workers }
+    requires few_workers { workers ≤ WORKER_LIMIT }
+    requires few { places ≤ PLACE_LIMIT }
+    requires poses { posed.now.problem ≡ problem_of posed.now.tableau }
+    ensures report { IfOk result (λ answer. IsDemoReport number posed.now answer.report.text) }
+    ensures status { IfOk result (λ answer. answer.report.status ≡ Status.Done) }
+    ensures search { IfOk result (λ answer. IsSearchBy posed.now.problem workers places (λ typology. answer.report.text ≡ summary_of number posed.now typology) answer.found) }
+{
+    if workers == 1 {
+        let alone = search_alone(alloc, &posed.problem, places)?;
+        return Ok(Answer {
+            report: done(demo_report(alloc, posed, number, &alone.typology)?),
+            found: None,
+        });
+    }
+    let found = search(threads, alloc, &posed.problem, workers, places, gate)?;
+    Ok(Answer {
+        report: done(demo_report(alloc, posed, number, &found.typology)?),
+        found: Some(found),
+    })
+}
+
+/// The report of a run that is then done.
+fn done(text: Label) -> Report
+    ensures text { result.text ≡ text }
+    ensures status { result.status ≡ Status.Done }
+{
+    Report {
+        text,
+        status: Status::Done,
+    }
+}
+
+/// The report of the typology of a problem.
+fn typology_report(alloc: Global, posed: &Posed, typology: &Typology) -> Result<Label, NoMemory>
+    requires poses { posed.now.problem ≡ problem_of posed.now.tableau }
+    requires found { IsTypologyOf posed.now.problem typology.now }
+    ensures made { IfOk result (λ report. report ≡ report_of posed.now typology.now) }
+    ensures right { IfOk result (IsTypologyReport posed.now) }
+{
+    typology_text(alloc, &posed.tableau, &posed.problem, typology)
+}
+
+/// The report of the implications between the outputs of a problem, read off the languages of its typology.
+fn torder_report(alloc: Global, posed: &Posed, typology: &Typology) -> Result<Label, NoMemory>
+    requires poses { posed.now.problem ≡ problem_of posed.now.tableau }
+    requires found { IsTypologyOf posed.now.problem typology.now }
+    ensures { IfOk result (IsTorderReport posed.now) }
+{
+    let list = implications(alloc, &posed.problem, typology.languages.as_slice())?;
     torder_text(alloc, &posed.tableau, &posed.problem, list.as_slice())
+}
+
+/// The counts of the typology of a demonstration file, and the length of its report.
+fn demo_report(
+    alloc: Global,
+    posed: &Posed,
+    number: u64,
+    typology: &Typology,
+) -> Result<Label, NoMemory>
+    requires poses { posed.now.problem ≡ problem_of posed.now.tableau }
+    requires found { IsTypologyOf posed.now.problem typology.now }
+    ensures made { IfOk result (λ report. report ≡ summary_of number posed.now typology.now) }
+    ensures right { IfOk result (IsDemoReport number posed.now) }
+{
+    let whole = typology_report(alloc, posed, typology)?;
+    demo_text(alloc, number, FILE_BYTES, typology, whole.bytes().len())
 }

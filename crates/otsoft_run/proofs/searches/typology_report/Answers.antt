@@ -14,8 +14,8 @@ typology_text-requires-clause-some_term c =
     (λ (certificate : Contradiction). is_contradiction c.args.posed.now.problem (terms_in certificate.terms) ≡ true)
     (λ (certificate : Contradiction). 0 < length certificate.terms)
     (λ certificate h. genuine-some c.args.posed.now.problem certificate.terms h)
-    c.in_ok-alone.alone.typology.certificates
-    c.in_ok-alone.ensures.genuine
+    c.args.typology.now.certificates
+    c.requires.found.genuine
 
 pub typology_text-requires-clause-terms : goal.typology_text-requires-clause-terms
 typology_text-requires-clause-terms c =
@@ -23,5 +23,5 @@ typology_text-requires-clause-terms c =
     (λ (certificate : Contradiction). is_contradiction c.args.posed.now.problem (terms_in certificate.terms) ≡ true)
     (λ (certificate : Contradiction). IsTrue (are_terms c.args.posed.now.problem certificate.terms))
     (λ certificate h. genuine-terms c.args.posed.now.problem certificate.terms h)
-    c.in_ok-alone.alone.typology.certificates
-    c.in_ok-alone.ensures.genuine
+    c.args.typology.now.certificates
+    c.requires.found.genuine
