@@ -1,4 +1,4 @@
-//! That two workers run at the same time.
+//! That two workers run at the same time, in a search and in whole runs.
 
 use crossbeam_utils::CachePadded;
 use demonstration_file::demonstration_file;
@@ -7,6 +7,9 @@ use ot_base::Gate;
 use otsoft_run::Status;
 use std::sync::atomic::{AtomicBool, Ordering};
 use std::test::Fail;
+use tableau_file::read_tableau;
+use typology_workers::search;
+use violation_profiles::Problem;
 
 /// How often a worker that is held looks at the flag.
 const LOOKS: u32 = 1 << 30;
@@ -66,6 +69,29 @@ fn one_worker_waits_for_the_other(rt: HostRuntime) -> Result<(), Fail> {
             let seen = gate.seen.load(Ordering::SeqCst);
             assert!(rt; seen, "{words}, worker {held} held");
         }
+    }
+    Ok(())
+}
+
+#[test]
+fn one_worker_of_a_search_waits_for_the_other(rt: HostRuntime) -> Result<(), Fail> {
+    let file = demonstration_file(rt.alloc(), 1)?;
+    let Ok(tableau) = read_tableau(rt.alloc(), file.bytes()) else {
+        panic!(rt; "the demonstration file is refused");
+    };
+    let problem = Problem::of(rt.alloc(), &tableau)?;
+    for (held, other) in [(0, 1), (1, 0)] {
+        let gate = Held::new(held, other);
+        let found = search(&rt, rt.alloc(), &problem, 2, 1_024, &gate)?;
+        let seen = gate.seen.load(Ordering::SeqCst);
+        assert!(rt; seen, "worker {held} held");
+        let typology = &found.typology;
+        let counts = (
+            typology.languages.len(),
+            typology.certificates.len(),
+            typology.cuts.len(),
+        );
+        assert_eq!(rt; counts, (300, 74, 5_404), "worker {held} held");
     }
     Ok(())
 }
