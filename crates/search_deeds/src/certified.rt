@@ -8,14 +8,16 @@ ghost use Rattle.refutation.specs.Typologies.{certificates_of, cuts_of};
 ghost use Rattle.refutation.specs.Prefixes.{class_numbers};
 ghost use Rattle.search_deeds.specs.Gathered.{AreGenuine, AreNamed, IsCertified, first_refuting};
 ghost use Rattle.search_deeds.specs.Indexed.{HoldsRefuting};
+ghost use Rattle.search_deeds.specs.Made.{AreMade};
 ghost use Rattle.search_deeds.specs.Places.{IsIndexOf};
 ghost use Rattle.search_deeds.specs.Sieved.{IsSieve};
 
 use crate::index::Index;
+use crate::ready::Ready;
 use crate::sieve::bits_of;
 use erc_vectors::{List, NoMemory};
 use ot_base::ClassId;
-use refutation::{Contradiction, Cut, Prefix, deletion_core, refutes};
+use refutation::{Contradiction, Cut, Prefix, refutes};
 use std::alloc::Global;
 use violation_profiles::Problem;
 
@@ -36,8 +38,16 @@ pub(crate) fn certified(
     let mut cuts = List::new(alloc);
     let mut certificates = List::new(alloc);
     let mut index = Index::new(alloc, p)?;
+    let mut ready = Ready::new(alloc, p)?;
     for prefix in prefixes {
-        let certificate = name_certificate(alloc, p, &prefix, &mut certificates, &mut index)?;
+        let certificate = name_certificate(
+            alloc,
+            p,
+            &mut ready,
+            &prefix,
+            &mut certificates,
+            &mut index,
+        )?;
         cuts.push(Cut {
             prefix,
             certificate,
@@ -50,6 +60,7 @@ pub(crate) fn certified(
 fn name_certificate(
     alloc: Global,
     p: &Problem,
+    ready: &mut Ready,
     prefix: &Prefix,
     certificates: &mut List<Contradiction>,
     index: &mut Index,
@@ -58,12 +69,14 @@ fn name_certificate(
     requires refuted { refuted p.now prefix.now ≡ true }
     requires shortest { (k : ℕ) → k < length prefix.now → refuted p.now (take k prefix.now) ≡ false }
     requires genuine { AreGenuine p.now certificates.old }
+    requires made { AreMade p.now ready.old }
     requires indexed { IsIndexOf p.now certificates.old index.old }
     ensures indexed { OnOk result (IsIndexOf p.now certificates.new index.new) }
     ensures genuine { OnOk result (AreGenuine p.now certificates.new) }
     ensures listed { OnOk result (certificates_of certificates.new ≡ with_certificate p.now (certificates_of certificates.old) prefix.now) }
     ensures first { IfOk result (λ place. place ≡ first_refuting (certificates_of certificates.new) prefix.now) }
     ensures within { IfOk result (λ place. place < length certificates.new) }
+    ensures made { AreMade p.now ready.new }
 {
     let classes = prefix.as_slice();
     let (places, marks) = index.bucket_for(p, classes);
@@ -72,7 +85,7 @@ fn name_certificate(
         return Ok(place);
     }
     let place = certificates.len();
-    let certificate = deletion_core(alloc, p, classes)?;
+    let certificate = ready.certificate_of(alloc, p, classes)?;
     index.add(p, certificate.terms.as_slice(), place)?;
     certificates.push(certificate)?;
     Ok(place)

@@ -25,4 +25,4 @@ pub use gathering::gather;
 pub use index::{Index, widest};
 pub use ready::Ready;
 pub use shared::deeds_go;
-pub use sieve::{bits_of, with_choice};
+pub use sieve::{bits_of, mark_of, with_choice};

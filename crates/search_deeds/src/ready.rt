@@ -1,10 +1,12 @@
 //! What the classes of the inputs ask of a ranking, each made when it is first wanted.
 
-ghost use Rattle.std.specs.Prelude.{◌≡◌, ◌<◌, ◌++◌, List, length, IfOk, OnOk, IfSome};
+ghost use Rattle.std.specs.Prelude.{◌≡◌, ◌<◌, ◌++◌, List, length, true, IfOk, OnOk, IfSome};
 ghost use Rattle.ot_theory.specs.Problems as problems;
 ghost use Rattle.ot_theory.specs.Languages as theory;
-ghost use Rattle.ot_theory.specs.Languages.{classes_at, terms_of, terms_of_class};
+ghost use Rattle.ot_theory.specs.Languages.{classes_at, refuted, terms_of, terms_of_class};
+ghost use Rattle.ot_theory.specs.Refutations.{EachIsNeeded, certificate_of, is_contradiction, refutes};
 ghost use Rattle.refutation.specs.Prefixes.{class_numbers};
+ghost use Rattle.refutation.specs.Terms.{terms_in};
 ghost use Rattle.violation_profiles.specs.WellFormed.{IsPrefix};
 ghost use Rattle.refutation.specs.Asked.{AreAsked};
 ghost use Rattle.search_deeds.specs.Made.{AreMade};
@@ -12,7 +14,7 @@ ghost use Rattle.search_deeds.specs.Made.{AreMade};
 use crate::index::widest;
 use erc_vectors::NoMemory;
 use ot_base::{ClassId, InId};
-use refutation::Asked;
+use refutation::{Asked, Contradiction, core_of_conditions};
 use std::alloc::Global;
 use violation_profiles::Problem;
 
@@ -125,6 +127,47 @@ impl Ready {
         }
         Ok(asked)
     }
+
+    /// The certificate of a prefix of the problem that holds under no ranking, which is that of all terms of the prefix. What its
+    /// classes ask is made first, unless it is made.
+    pub fn certificate_of(
+        &mut self,
+        alloc: Global,
+        p: &Problem,
+        prefix: &[ClassId],
+    ) -> Result<Contradiction, NoMemory>
+        requires prefix { IsPrefix p.now (class_numbers prefix.now) }
+        requires refuted { refuted p.now (class_numbers prefix.now) ≡ true }
+        requires made { AreMade p.now self.old }
+        ensures certificate { IfOk result (λ core. terms_in core.terms ≡ certificate_of p.now (terms_of p.now (class_numbers prefix.now))) }
+        ensures contradiction { IfOk result (λ core. is_contradiction p.now (terms_in core.terms) ≡ true) }
+        ensures refutes { IfOk result (λ core. refutes (terms_in core.terms) (class_numbers prefix.now) ≡ true) }
+        ensures needed { IfOk result (λ core. EachIsNeeded p.now (terms_in core.terms)) }
+        ensures made { AreMade p.now self.new }
+    {
+        let asked = self.asked_by(alloc, p, prefix)?;
+        certificate_asked(alloc, p, prefix, asked)
+    }
+}
+
+/// The certificate of a refuted prefix whose classes ask this.
+fn certificate_asked(
+    alloc: Global,
+    p: &Problem,
+    prefix: &[ClassId],
+    asked: Asked,
+) -> Result<Contradiction, NoMemory>
+    requires prefix { IsPrefix p.now (class_numbers prefix.now) }
+    requires refuted { refuted p.now (class_numbers prefix.now) ≡ true }
+    requires asked { AreAsked p.now (terms_of p.now (class_numbers prefix.now)) asked.terms.items asked.conditions.items }
+    ensures certificate { IfOk result (λ core. terms_in core.terms ≡ certificate_of p.now (terms_of p.now (class_numbers prefix.now))) }
+    ensures contradiction { IfOk result (λ core. is_contradiction p.now (terms_in core.terms) ≡ true) }
+    ensures refutes { IfOk result (λ core. refutes (terms_in core.terms) (class_numbers prefix.now) ≡ true) }
+    ensures needed { IfOk result (λ core. EachIsNeeded p.now (terms_in core.terms)) }
+{
+    prove!(prefix.len() <= p.inputs());
+    let Asked { terms, conditions } = asked;
+    core_of_conditions(alloc, p, terms.as_slice(), conditions)
 }
 
 fn place_of(widest: u16, input: InId, class: ClassId) -> usize {

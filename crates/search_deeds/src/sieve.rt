@@ -31,7 +31,7 @@ pub fn bits_of(prefix: &[ClassId]) -> u64
 }
 
 /// The bits of the choices that some terms ask for.
-pub(crate) fn mark_of(terms: &[Term]) -> u64
+pub fn mark_of(terms: &[Term]) -> u64
     ensures { IsMarkOf (terms_in terms.now) result }
 {
     let mut mark = 0;

@@ -7,6 +7,7 @@ loop-prefix-preserved c = record {
       c.loop-prefix.invariant.certified c.in_ok-certificate.ensures.listed c.in_ok-certificate.ensures.first c.in_ok-certificate.ensures.within c.in_ok-push.ensures.ok;
   genuine = c.in_ok-certificate.ensures.genuine;
   indexed = c.in_ok-certificate.ensures.indexed;
+  made = c.name_certificate.ensures.made;
 }
 
 pub returns-clause-named : goal.returns-clause-named

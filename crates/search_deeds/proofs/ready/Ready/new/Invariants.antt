@@ -1,5 +1,5 @@
 -- nothing is made so far
-use Rattle.std.proofs.Common.{◌≡◌, ◌≤◌, None}
+use Rattle.std.proofs.Common.{◌≡◌, None}
 use Rattle.std.specs.Prelude.{All}
 use Rattle.search_deeds.proofs.ready.Ready.new.Given as goal
 
