@@ -75,6 +75,8 @@ fn keep_open(
     requires as_long { length conditions.now ≡ length terms.now }
     ensures kept { OnOk result (AreKept terms.now conditions.now flags.now asked.new.terms.items asked.new.conditions.items) }
 {
+    asked.terms.reserve(terms.len())?;
+    asked.conditions.reserve(terms.len())?;
     for k in 0..terms.len() {
         if flags[k] {
             asked.keep(terms[k], conditions[k])?;
