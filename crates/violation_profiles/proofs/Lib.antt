@@ -3,3 +3,4 @@ pub mod Inputs
 pub mod Found
 pub mod Joined
 pub mod Masked
+pub mod Keys

@@ -1,5 +1,5 @@
 -- The classes of candidates, each with its profile and its members.
-use Rattle.std.specs.Prelude.{◌≡◌, ℕ, List, map}
+use Rattle.std.specs.Prelude.{◌≡◌, ℕ, ◌+◌, ◌*◌, ◌%◌, ◌^◌, List, map, fold}
 use Rattle.ot_theory.specs.Problems.{classes_of, members_of}
 use Rattle.violation_profiles.specs.declared.classes.Class.{Class}
 
@@ -7,3 +7,11 @@ use Rattle.violation_profiles.specs.declared.classes.Class.{Class}
 pub record AreClassesOf (profiles : List (List ℕ)) (classes : List Class) : Type 0 where
   pub distinct : map (λ class. class.profile) classes ≡ classes_of profiles
   pub members : map (λ class. class.members) classes ≡ map (members_of profiles) (classes_of profiles)
+
+-- A number for a profile, the same for equal profiles: its violations as digits of base 5, in 64 bits.
+abbrev pub key_of : List ℕ → ℕ
+key_of profile = fold (λ key violation. (key * 5 % 2 ^ 64 + violation) % 2 ^ 64) 0 profile
+
+-- the keys of classes
+abbrev pub keys_of : List Class → List ℕ
+keys_of classes = map (λ class. key_of class.profile) classes

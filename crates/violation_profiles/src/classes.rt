@@ -3,7 +3,7 @@
 ghost use Rattle.std.specs.Prelude.{◌≡◌, ◌<◌, ◌≤◌, List, ℕ, [], ◌∷◌, ◌++◌, length, map, position, true, IfOk, IfSome, OnOk};
 ghost use Rattle.ot_base.specs.declared.limits.TheConstants.{CANDIDATE_LIMIT};
 ghost use Rattle.ot_theory.specs.Problems.{same_profile};
-ghost use Rattle.violation_profiles.specs.Classes.{AreClassesOf};
+ghost use Rattle.violation_profiles.specs.Classes.{AreClassesOf, key_of, keys_of};
 
 use erc_vectors::{List, NoMemory};
 use ot_base::CandidateRow;
@@ -34,26 +34,61 @@ pub(crate) fn classes_of(alloc: Global, candidates: &[CandidateRow]) -> Result<V
     ensures { IfOk result (λ classes. AreClassesOf (map (λ row. row.violations) candidates.now) classes.items) }
 {
     let mut classes = Vec::new(alloc);
+    let mut keys = List::new(alloc);
     for (k, row) in candidates.iter().enumerate() {
-        add_candidate(alloc, &mut classes, row.violations.as_slice(), k as u32)?;
+        let profile = row.violations.as_slice();
+        add_candidate(alloc, &mut classes, &mut keys, profile, k as u32)?;
     }
     Ok(classes)
 }
 
-/// Adds a candidate to the class of its profile, or as a new class.
+/// Adds a candidate to the class of its profile, or as a new class. Beside the classes stands the key of each.
 fn add_candidate(
     alloc: Global,
     classes: &mut Vec<Class>,
+    keys: &mut List<u64>,
     profile: &[u32],
     candidate: u32,
 ) -> Result<(), NoMemory>
-    ensures { OnOk result ((profiles : List (List ℕ)) → length profiles ≡ candidate → AreClassesOf profiles classes.old.items
+    requires { keys.old ≡ keys_of classes.old.items }
+    ensures classes { OnOk result ((profiles : List (List ℕ)) → length profiles ≡ candidate → AreClassesOf profiles classes.old.items
         → AreClassesOf (profiles ++ profile.now ∷ []) classes.new.items) }
+    ensures keys { OnOk result (keys.new ≡ keys_of classes.new.items) }
 {
-    match class_of(classes.as_slice(), profile) {
+    let key = key_of(profile);
+    match class_with_key(classes.as_slice(), keys.as_slice(), profile, key) {
         Some(a) => classes[a].members.push(candidate),
-        None => add_class(alloc, classes, profile, candidate),
+        None => {
+            keys.push(key)?;
+            add_class(alloc, classes, profile, candidate)
+        }
     }
+}
+
+/// A number for a profile, by which most profiles that differ are told apart.
+fn key_of(profile: &[u32]) -> u64
+    ensures { result ≡ key_of profile.now }
+{
+    let mut key: u64 = 0;
+    for violation in profile {
+        key = key.wrapping_mul(5).wrapping_add(u64::from(*violation));
+    }
+    key
+}
+
+/// The class with this profile, by its key. A profile is compared only with those that have the same key.
+fn class_with_key(classes: &[Class], keys: &[u64], profile: &[u32], key: u64) -> Option<usize>
+    requires keys { keys.now ≡ keys_of classes.now }
+    requires key { key ≡ key_of profile.now }
+    ensures class { result ≡ position (λ class. same_profile profile.now class.profile) classes.now }
+    ensures within { IfSome result (λ a. a < length classes.now) }
+{
+    for a in 0..classes.len() {
+        if keys[a] == key && is_profile_of(&classes[a], profile) {
+            return Some(a);
+        }
+    }
+    None
 }
 
 /// Adds a candidate as a new class.
@@ -84,21 +119,5 @@ pub(crate) fn class_of(classes: &[Class], profile: &[u32]) -> Option<usize>
 fn is_profile_of(class: &Class, profile: &[u32]) -> bool
     ensures { result ≡ same_profile profile.now class.now.profile }
 {
-    let other = class.profile.as_slice();
-    begins_alike(profile, other) && profile == other
-}
-
-/// How many violations are compared one by one, before all.
-const FEW: usize = 4;
-
-/// Whether the first violations of two profiles are equal. Most profiles that differ do so there.
-fn begins_alike(profile: &[u32], other: &[u32]) -> bool
-    ensures { profile.now ≡ other.now → result ≡ true }
-{
-    for k in 0..profile.len().min(other.len()).min(FEW) {
-        if profile[k] != other[k] {
-            return false;
-        }
-    }
-    true
+    profile == class.profile.as_slice()
 }
