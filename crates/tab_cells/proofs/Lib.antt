@@ -4,3 +4,4 @@ pub mod FirstCell
 pub mod PairedQuotes
 pub mod Trimmed
 pub mod TextOf
+pub mod Digits

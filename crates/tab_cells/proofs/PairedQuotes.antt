@@ -1,5 +1,5 @@
 -- Pairs of quotes in a text.
-use Rattle.std.proofs.Common.{◌≡◌, ◌≢◌, ℕ, zero, suc, ◌+◌, ◌<◌, ◌≤◌, false, true, ◌==◌, ◌&&◌, ◌⊎◌, List, [], ◌∷◌, ◌++◌, append_assoc, length, slice_index, arith, inl, inr, ap, refl, sym, None, Some}
+use Rattle.std.proofs.Common.{◌≡◌, ℕ, zero, suc, ◌+◌, ◌<◌, false, true, ◌==◌, ◌&&◌, ◌⊎◌, List, [], ◌∷◌, ◌++◌, append_assoc, length, slice_index, arith, inl, inr, ap, refl, sym, None, Some}
 use Rattle.std.specs.Prelude.{Option, is_some}
 use Rattle.std.specs.List.{list_all}
 use Rattle.std.proofs.lemmas.Bool.Decides.{eqb_tells}

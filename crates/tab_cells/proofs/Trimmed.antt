@@ -1,10 +1,10 @@
 -- Texts without the spaces at their ends.
-use Rattle.std.proofs.Common.{◌≡◌, ℕ, suc, ◌+◌, ◌-◌, ◌≤◌, false, true, ◌==◌, List, [], ◌∷◌, length, slice_index, reverse, arith, inl, inr, ap, refl, ◌∙◌, take_all}
+use Rattle.std.proofs.Common.{◌≡◌, ℕ, suc, ◌+◌, ◌-◌, ◌≤◌, false, true, ◌==◌, List, [], ◌∷◌, length, reverse, arith, inl, inr, ap, refl, ◌∙◌}
 use Rattle.std.specs.List.{list_all, prefix_len, suffix_len}
 use Rattle.std.proofs.lemmas.Bool.Decides.{eqb_tells, leb_tells}
 use Rattle.std.proofs.lemmas.List.{get_or-reverse, length-take-le}
-use Rattle.std.proofs.lemmas.List.Sums.{prefix_len_is, suffix_len_is, prefix_len_passes}
-use Rattle.tab_cells.specs.Cells.{is_space, is_quoted, trimmed, trimmed_start, trimmed_end, text_of}
+use Rattle.std.proofs.lemmas.List.Sums.{prefix_len_passes}
+use Rattle.tab_cells.specs.Cells.{is_space, trimmed, trimmed_start, trimmed_end}
 
 trimmed_start-space : (c : ℕ) (text : List ℕ) → is_space c ≡ true → trimmed_start (c ∷ text) ≡ trimmed_start text
 trimmed_start-space c text space =

@@ -12,6 +12,18 @@ abbrev pub cells_left : Option (Bor (List ℕ)) → List (List ℕ)
 cells_left None = []
 cells_left (Some rest) = cells_of rest.now
 
+abbrev pub is_digit : ℕ → Bool
+is_digit c = nat_le 48 c && nat_le c 57
+
+-- a cell of one digit and nothing else, and the number of that digit
+abbrev pub is_one_digit : List ℕ → Bool
+is_one_digit [] = false
+is_one_digit (c ∷ []) = is_digit c
+is_one_digit (c ∷ d ∷ rest) = false
+
+abbrev pub digit_of : List ℕ → ℕ
+digit_of cell = slice_index cell 0 - 48
+
 abbrev pub is_space : ℕ → Bool
 is_space c = c == 32
 

@@ -1,8 +1,9 @@
 //! Bytes as lines, and a line as cells.
 
-ghost use Rattle.std.specs.Prelude.{◌≡◌, ◌∷◌, ◌<◌, length};
+ghost use Rattle.std.specs.Prelude.{◌≡◌, ◌∷◌, ◌++◌, ◌<◌, length, map, take, drop, min};
+ghost use Rattle.std.specs.List.{prefix_len};
 ghost use Rattle.tab_cells.specs.Lines.{lines_of, after_end};
-ghost use Rattle.tab_cells.specs.Cells.{cells_of, cells_left};
+ghost use Rattle.tab_cells.specs.Cells.{cells_of, cells_left, is_digit, is_one_digit, digit_of};
 
 use memchr::memchr2;
 use std::marker::Model;
@@ -90,6 +91,21 @@ impl<'a> Cells<'a> {
     {
         Cells { rest: Some(line) }
     }
+
+    /// Takes the next cells as long as each is one digit and there is room for its number, and puts the numbers down. It
+    /// returns how many they are.
+    pub fn take_digits(&mut self, numbers: &mut [u32]) -> usize
+        ensures taken { result ≡ min (length numbers.old) (prefix_len is_one_digit self.old) }
+        ensures numbers { numbers.new ≡ map digit_of (take result self.old) ++ drop result numbers.old }
+        ensures rest { self.new ≡ drop result self.old }
+    {
+        let Some(line) = self.rest else {
+            return 0;
+        };
+        let (taken, rest) = cut_digits(line, numbers);
+        self.rest = rest;
+        taken
+    }
 }
 
 impl<'a> Iterator for Cells<'a> {
@@ -127,4 +143,32 @@ fn cut_at_tab(line: &[u8]) -> (&[u8], Option<&[u8]>)
         Some(at) => (&line[..at], Some(&line[at + 1..])),
         None => (line, None),
     }
+}
+
+/// The number of the first cells of one digit for whose numbers there is room, and what stands after them.
+fn cut_digits<'a>(line: &'a [u8], numbers: &mut [u32]) -> (usize, Option<&'a [u8]>)
+    ensures taken { result.0 ≡ min (length numbers.old) (prefix_len is_one_digit (cells_of line.now)) }
+    ensures numbers { numbers.new ≡ map digit_of (take result.0 (cells_of line.now)) ++ drop result.0 numbers.old }
+    ensures rest { cells_left result.1 ≡ drop result.0 (cells_of line.now) }
+{
+    for k in 0..numbers.len() {
+        let left = &line[2 * k..];
+        if left.is_empty() || !is_digit(left[0]) {
+            return (k, Some(left));
+        }
+        if left.len() > 1 && left[1] != b'\t' {
+            return (k, Some(left));
+        }
+        numbers[k] = u32::from(left[0] - b'0');
+        if left.len() == 1 {
+            return (k + 1, None);
+        }
+    }
+    (numbers.len(), Some(&line[2 * numbers.len()..]))
+}
+
+fn is_digit(c: u8) -> bool
+    ensures { result ≡ is_digit c }
+{
+    b'0' <= c && c <= b'9'
 }

@@ -44,6 +44,24 @@ fn cuts_cells(rt: HostRuntime) {
 }
 
 #[test]
+fn takes_digits(rt: HostRuntime) {
+    let table: [(&str, usize, [u32; 3]); 6] = [
+        ("", 0, [7, 7, 7]),
+        ("1\t2", 2, [1, 2, 7]),
+        ("1\t23\t4", 1, [1, 7, 7]),
+        ("1\t0\t9\t4", 3, [1, 0, 9]),
+        ("3\t\t4", 1, [3, 7, 7]),
+        ("3\tx\t4", 1, [3, 7, 7]),
+    ];
+    for (line, taken, numbers) in table {
+        let mut found = [7; 3];
+        let mut left = cells(line.as_bytes());
+        assert_eq!(rt; left.take_digits(&mut found), taken, "of {line:?}");
+        assert_eq!(rt; found, numbers, "of {line:?}");
+    }
+}
+
+#[test]
 fn takes_the_text_of_cells(rt: HostRuntime) -> Result<(), Fail> {
     let table = [
         ("", "", false),

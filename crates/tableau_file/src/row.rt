@@ -1,9 +1,9 @@
 //! One line as a candidate, behind the inputs of the lines before it.
 
-ghost use Rattle.std.specs.Prelude.{◌≡◌, ◌+◌, ◌<◌, ◌≤◌, ℕ, [], ◌∷◌, ◌++◌, List, true, false, not, map, drop, length, OnOk, IfOk, Err, MatchOption, MatchResult};
+ghost use Rattle.std.specs.Prelude.{◌≡◌, ◌+◌, ◌<◌, ◌≤◌, ℕ, [], ◌∷◌, ◌++◌, List, true, false, not, map, take, drop, length, OnOk, IfOk, Err, MatchOption, MatchResult};
 ghost use Rattle.std.specs.Option.{option_copied};
-ghost use Rattle.std.specs.List.{list_all, list_any, range_with_len};
-ghost use Rattle.tab_cells.specs.Cells.{text_of};
+ghost use Rattle.std.specs.List.{list_all, list_any, prefix_len, range_with_len};
+ghost use Rattle.tab_cells.specs.Cells.{is_one_digit, digit_of, text_of};
 ghost use Rattle.tableau_file.specs.Numbers.{value_of, is_violation, billionths};
 ghost use Rattle.tableau_file.specs.Rows.{texts_of, cell, is_empty, constraint_cells, candidate_of, continues, with_row, is_blank};
 ghost use Rattle.tableau_file.specs.Faults.{current, begins_input, candidates_before, all_candidates, input_faults, candidate_faults, number_faults, row_faults, IsFirst};
@@ -11,7 +11,7 @@ ghost use Rattle.tableau_file.specs.Faults.{current, begins_input, candidates_be
 use crate::Why;
 use crate::cells::{has_text, next_text};
 use crate::numbers::{count_of, violation_of};
-use erc_vectors::{List, NoMemory};
+use erc_vectors::{LIMIT, List, NoMemory};
 use ot_base::{CANDIDATE_LIMIT, CandidateRow, INPUT_LIMIT, InputRows, Label, ROW_LIMIT};
 use std::alloc::Global;
 use std::marker::Model;
@@ -208,13 +208,43 @@ fn violations_of(alloc: Global, n: usize, cells: &mut Cells<'_>) -> Result<List<
     ensures rest { OnOk result (cells.new ≡ drop n cells.old) }
     ensures fault { (why : Why) → result ≡ Err (LineError.Fault why) → (why ≡ Why.BadViolation) × (list_all is_violation (map (cell (map text_of cells.old)) (range_with_len 0 n)) ≡ false) }
 {
-    let mut violations = List::new(alloc);
-    violations.reserve(n)?;
-    for _ in 0..n {
+    let mut violations = digits_of(alloc, n, cells)?;
+    let taken = violations.len();
+    for _ in taken..n {
         let violation = next_violation(alloc, cells)?;
         violations.push(violation)?;
     }
     Ok(violations)
+}
+
+/// The numbers in the next cells as long as each is one digit, at most n, in a list with room for n.
+fn digits_of(alloc: Global, n: usize, cells: &mut Cells<'_>) -> Result<List<u32>, NoMemory>
+    ensures numbers { IfOk result (λ list. list ≡ map digit_of (take (length list) cells.old)) }
+    ensures digits { IfOk result (λ list. length list ≤ prefix_len is_one_digit cells.old) }
+    ensures few { IfOk result (λ list. length list ≤ n) }
+    ensures rest { IfOk result (λ list. cells.new ≡ drop (length list) cells.old) }
+{
+    let mut digits = [0; LIMIT];
+    digits_in(alloc, n, &mut digits[..n.min(LIMIT)], cells)
+}
+
+/// The same, as many as there is room for here.
+fn digits_in(
+    alloc: Global,
+    n: usize,
+    digits: &mut [u32],
+    cells: &mut Cells<'_>,
+) -> Result<List<u32>, NoMemory>
+    requires { length digits.old ≤ n }
+    ensures numbers { IfOk result (λ list. list ≡ map digit_of (take (length list) cells.old)) }
+    ensures digits { IfOk result (λ list. length list ≤ prefix_len is_one_digit cells.old) }
+    ensures few { IfOk result (λ list. length list ≤ n) }
+    ensures rest { IfOk result (λ list. cells.new ≡ drop (length list) cells.old) }
+{
+    let taken = cells.take_digits(digits);
+    let mut list = Vec::with_capacity(alloc, n)?;
+    list.extend_from_slice(&digits[..taken])?;
+    Ok(List::from_vec(list))
 }
 
 /// The violation in the next cell, or the fault of one that is none. Past the end of the line it is 0.

@@ -1,4 +1,4 @@
-use Rattle.std.proofs.Common.{◌≡◌, ◌∷◌, ◌++◌, [], true, drop, map, ap, sym, refl, ◌∙◌, arith}
+use Rattle.std.proofs.Common.{◌≡◌, ◌∷◌, ◌++◌, [], true, drop, length, map, ap, sym, refl, ◌∙◌, arith}
 use Rattle.std.specs.List.{list_all, range_with_len}
 use Rattle.std.proofs.lemmas.List.{drop-drop, map_push}
 use Rattle.std.proofs.lemmas.List.Folds.{list_all-append}
@@ -7,7 +7,23 @@ use Rattle.tab_cells.specs.Cells.{text_of}
 use Rattle.tableau_file.specs.Numbers.{value_of, is_violation}
 use Rattle.tableau_file.specs.Rows.{cell}
 use Rattle.tableau_file.proofs.Columns.{first_left, columns_more, fails-column}
+use Rattle.tableau_file.proofs.Digits.{digits-are_values, digits-are_violations}
 use Rattle.tableau_file.proofs.row.violations_of.Goals as goal
+
+pub loop-init : goal.loop-init
+loop-init c =
+    let list = c.in_ok-violations.violations in
+    let columns = map (cell (map text_of c.args.cells.now)) in
+    record {
+      cells = c.in_ok-violations.ensures.rest ∙ ap (λ t. drop t c.args.cells.now) (sym c.len-taken.ensures);
+      violations =
+          c.in_ok-violations.ensures.numbers
+          ∙ digits-are_values (length list) c.args.cells.now c.in_ok-violations.ensures.digits
+          ∙ ap (λ t. map value_of (columns (range_with_len 0 t))) (sym c.len-taken.ensures);
+      sound =
+          ap (λ t. list_all is_violation (columns (range_with_len 0 t))) c.len-taken.ensures
+          ∙ digits-are_violations (length list) c.args.cells.now c.in_ok-violations.ensures.digits;
+    }
 
 pub loop-preserved : goal.loop-preserved
 loop-preserved c =
