@@ -4,7 +4,7 @@ use Rattle.refutation.specs.declared.implication.Implication.{Implication}
 use Rattle.ot_theory.specs.Rankings.{rankings, put_somewhere}
 use Rattle.ot_theory.specs.Problems.{Problem, input_of}
 use Rattle.ot_theory.proofs.Examples.{one_input, two_inputs, syllables}
-use Rattle.t_orders.specs.Implications.{implication, is_possible, implies, implications}
+use Rattle.t_orders.specs.Implications.{implication, is_possible, implies, implications, implications_by}
 
 abbrev from_to : ℕ → ℕ → ℕ → ℕ → Implication
 from_to i a j b = implication (record { input = i; class = a }) (record { input = j; class = b })
@@ -45,3 +45,19 @@ one_way = record {
 pub implications_of_one_way : implications one_way ≡ from_to 0 0 1 0 ∷ []
 unfolding rankings put_somewhere is_possible implies implications
 implications_of_one_way = refl
+
+-- ---- what some choices tell
+-- the languages of two equal inputs
+pub implications_by_languages : implications_by two_inputs ((0 ∷ 0 ∷ []) ∷ (1 ∷ 1 ∷ []) ∷ (2 ∷ 2 ∷ []) ∷ []) ≡
+    from_to 0 0 1 0 ∷ from_to 0 1 1 1 ∷ from_to 0 2 1 2 ∷ from_to 1 0 0 0 ∷ from_to 1 1 0 1 ∷ from_to 1 2 0 2 ∷ []
+unfolding implications_by
+implications_by_languages = refl
+
+-- Two choices with one class of the first input: it implies neither class of the second, and each of these implies it.
+pub implications_by_two_choices : implications_by two_inputs ((0 ∷ 1 ∷ []) ∷ (0 ∷ 2 ∷ []) ∷ []) ≡ from_to 1 1 0 0 ∷ from_to 1 2 0 0 ∷ []
+unfolding implications_by
+implications_by_two_choices = refl
+
+pub implications_by_no_choice : implications_by two_inputs [] ≡ []
+unfolding implications_by
+implications_by_no_choice = refl

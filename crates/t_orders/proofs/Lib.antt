@@ -4,4 +4,5 @@ pub mod OneLanguage
 pub mod ReadOff
 pub mod Tables
 pub mod Listed
+pub mod Told
 pub mod Choosing

@@ -18,9 +18,8 @@ use Rattle.refutation.specs.Typologies.{found_of}
 use Rattle.violation_profiles.specs.WellFormed.{IsWellFormed, IsWellFormedInput}
 use Rattle.t_orders.specs.declared.seen.Seen.{Seen}
 use Rattle.t_orders.specs.declared.seen.Seen.TheVariants.{Nothing, One, Several}
-use Rattle.t_orders.specs.Implications.{Output, outputs, is_possible, implies, is_listed, implication, implications}
-use Rattle.t_orders.specs.Laws.{has}
-use Rattle.t_orders.specs.Rows.{seen_with, seen_of, seen_at, choices_of, IsRowOf, IsTableOf, having, IsChoice, implied_at, implied_by_row, implied_by_table}
+use Rattle.t_orders.specs.Implications.{Output, outputs, is_possible, implies, is_listed, implication, implications, choices_of, has}
+use Rattle.t_orders.specs.Rows.{seen_with, seen_of, seen_at, IsRowOf, IsTableOf, having, IsChoice, implied_at, implied_by_row, implied_by_table}
 use Rattle.t_orders.proofs.OneLanguage.{IsChoice-languages}
 use Rattle.t_orders.proofs.ReadOff.{possible_by_languages, implied_by_languages}
 

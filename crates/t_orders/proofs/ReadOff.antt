@@ -8,8 +8,7 @@ use Rattle.ot_theory.specs.Languages.{holds, languages, classes_at}
 use Rattle.ot_theory.proofs.Enumeration.{any-ranking, ranking-found}
 use Rattle.ot_theory.proofs.Sets.{both_ways}
 use Rattle.violation_profiles.specs.WellFormed.{IsWellFormed}
-use Rattle.t_orders.specs.Implications.{Output, wins, is_possible, implies}
-use Rattle.t_orders.specs.Laws.{has}
+use Rattle.t_orders.specs.Implications.{Output, has, wins, is_possible, implies}
 use Rattle.t_orders.proofs.Optima.{optimal-once}
 use Rattle.t_orders.proofs.OneLanguage.{any-language, language-found, language_of, optimal-at}
 

@@ -1,11 +1,9 @@
 -- Rows and tables, a choice after another.
-use Rattle.std.proofs.Common.{◌≡◌, ◌≢◌, ℕ, zero, suc, ◌+◌, ◌<◌, ◌≤◌, List, [], ◌∷◌, ◌++◌, true, false, arith, refl, sym, ◌∙◌, ap, inl, inr, length, slice_index, slice_index_or, map, set, take, append-nil, get_or, subst}
+use Rattle.std.proofs.Common.{◌≡◌, ◌≢◌, ℕ, ◌+◌, ◌<◌, ◌≤◌, List, [], ◌∷◌, ◌++◌, true, false, arith, refl, sym, ◌∙◌, ap, inl, inr, length, slice_index, slice_index_or, set, take, append-nil, get_or, subst}
 use Rattle.std.specs.Prelude.{All}
-use Rattle.std.proofs.lemmas.Bool.{cases_eq}
 use Rattle.std.proofs.lemmas.Bool.Decides.{eqb_tells}
-use Rattle.std.proofs.lemmas.List.{get_or-map, get_or-set_same, get_or-set_other, length-map, length-set, map-append, take_more, take_all, get_or_read}
+use Rattle.std.proofs.lemmas.List.{get_or-map, get_or-set_same, get_or-set_other, length-map, length-set, take_more, take_all, get_or_read}
 use Rattle.std.proofs.lemmas.List.Elements.{filter-append}
-use Rattle.std.proofs.lemmas.List.Sums.{fold-append}
 use Rattle.ot_base.specs.declared.tableau.ClassId.{ClassId}
 use Rattle.ot_theory.specs.Problems.{Problem}
 use Rattle.ot_theory.specs.Languages.{classes_at}
@@ -13,9 +11,8 @@ use Rattle.refutation.specs.declared.typology.Language.{Language}
 use Rattle.refutation.specs.Prefixes.{class_numbers}
 use Rattle.t_orders.specs.declared.seen.Seen.{Seen}
 use Rattle.t_orders.specs.declared.seen.Seen.TheVariants.{Nothing}
-use Rattle.t_orders.specs.Implications.{Output}
-use Rattle.t_orders.specs.Laws.{has}
-use Rattle.t_orders.specs.Rows.{seen_with, seen_of, seen_at, IsRowOf, IsTableOf, AddsChoice, having, choices_of, IsChoice}
+use Rattle.t_orders.specs.Implications.{Output, choices_of, has}
+use Rattle.t_orders.specs.Rows.{seen_with, seen_at, IsTableOf, AddsChoice, having, IsChoice}
 
 -- ---- a row in which nothing is seen
 pub record IsBlank (n : ℕ) (row : List Seen) : Type 0 where

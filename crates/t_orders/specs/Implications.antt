@@ -1,10 +1,11 @@
--- Outputs, and which of them implies which, over all rankings.
-use Rattle.std.specs.Prelude.{◌≡◌, ℕ, Bool, not, ◌&&◌, ◌||◌, ◌==◌, List, map, length, filter, flat_map}
+-- Outputs, and which of them implies which, over all rankings and over some choices.
+use Rattle.std.specs.Prelude.{◌≡◌, ℕ, Bool, not, ◌&&◌, ◌||◌, ◌==◌, List, map, length, slice_index, filter, flat_map}
 use Rattle.std.specs.List.{list_any, list_all}
 use Rattle.ot_theory.specs.Rankings.{numbers_below, rankings, optimal}
 use Rattle.ot_theory.specs.Problems.{Problem}
 use Rattle.ot_theory.specs.Languages.{classes_at, languages}
 use Rattle.refutation.specs.declared.implication.Implication.{Implication}
+use Rattle.refutation.specs.declared.typology.Language.{Language}
 
 -- An output: an input and a class of it, by their numbers.
 pub record Output : Type 0 where
@@ -38,6 +39,23 @@ implication from to =
 -- The implications of a problem: of each output in order, those with the outputs that it implies, in order.
 unfoldable pub implications : Problem → List Implication
 implications problem = flat_map (λ from. map (implication from) (filter (is_listed problem from) (outputs problem))) (outputs problem)
+
+-- the choice has this class at this input
+abbrev pub has : Output → List ℕ → Bool
+has output choice = slice_index choice output.input == output.class
+
+-- Some choices tell an implication where its two inputs differ, some of them has the implying output, and every one that has it
+-- has the other.
+abbrev pub is_listed_by : List (List ℕ) → Output → Output → Bool
+is_listed_by choices from to = not (from.input == to.input) && list_any (has from) choices && list_all (λ choice. not (has from choice) || has to choice) choices
+
+-- The implications between outputs of a problem that some choices tell, in order of the implying output and then of the implied one.
+unfoldable pub implications_by : Problem → List (List ℕ) → List Implication
+implications_by problem choices = flat_map (λ from. map (implication from) (filter (is_listed_by choices from) (outputs problem))) (outputs problem)
+
+-- the choices of languages
+abbrev pub choices_of : List Language → List (List ℕ)
+choices_of languages = map (λ language. language.choice) languages
 
 -- these are the languages of the problem, in order, each beside a hierarchy
 abbrev pub AreLanguages : Problem → List (List ℕ × List ℕ) → Type 0

@@ -1,15 +1,11 @@
 -- Laws of implications: they can be read off the languages.
-use Rattle.std.specs.Prelude.{◌≡◌, ℕ, ◌<◌, Bool, true, not, ◌||◌, ◌==◌, List, length, slice_index, Contains}
+use Rattle.std.specs.Prelude.{◌≡◌, ℕ, ◌<◌, true, not, ◌||◌, List, length, Contains}
 use Rattle.std.specs.List.{list_any, list_all}
 use Rattle.ot_theory.specs.Rankings.{IsRanking}
 use Rattle.ot_theory.specs.Problems.{Problem}
 use Rattle.ot_theory.specs.Languages.{holds, languages}
 use Rattle.violation_profiles.specs.WellFormed.{IsWellFormed}
-use Rattle.t_orders.specs.Implications.{Output, is_possible, implies}
-
--- the choice has this class at this input
-abbrev pub has : Output → List ℕ → Bool
-has output choice = slice_index choice output.input == output.class
+use Rattle.t_orders.specs.Implications.{Output, has, is_possible, implies, implications, implications_by}
 
 -- Under a ranking one language holds, and no other.
 pub record HoldsOneLanguage (problem : Problem) (order : List ℕ) : Type 0 where
@@ -31,3 +27,7 @@ abbrev pub ImpliesByLanguages : Problem → Output → Output → Type 0
 ImpliesByLanguages problem from to =
     IsWellFormed problem → from.input < length problem.inputs → to.input < length problem.inputs
     → implies problem from to ≡ list_all (λ choice. not (has from choice) || has to choice) (languages problem)
+
+-- The implications of a problem are those that its languages tell.
+abbrev pub AreToldByLanguages : Problem → Type 0
+AreToldByLanguages problem = IsWellFormed problem → implications problem ≡ implications_by problem (languages problem)

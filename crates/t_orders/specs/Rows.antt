@@ -4,12 +4,10 @@ use Rattle.ot_base.specs.declared.tableau.ClassId.{ClassId}
 use Rattle.ot_theory.specs.Rankings.{numbers_below}
 use Rattle.ot_theory.specs.Problems.{Problem}
 use Rattle.refutation.specs.declared.implication.Implication.{Implication}
-use Rattle.refutation.specs.declared.typology.Language.{Language}
 use Rattle.violation_profiles.specs.WellFormed.{IsPrefix}
 use Rattle.t_orders.specs.declared.seen.Seen.{Seen}
 use Rattle.t_orders.specs.declared.seen.Seen.TheVariants.{Nothing, One, Several}
-use Rattle.t_orders.specs.Implications.{Output, implication}
-use Rattle.t_orders.specs.Laws.{has}
+use Rattle.t_orders.specs.Implications.{Output, has, implication}
 
 -- what is seen with one class more
 abbrev pub seen_with : Seen → ℕ → Seen
@@ -48,10 +46,6 @@ having output choices = filter (has output) choices
 pub record IsTableOf (choices : List (List ℕ)) (i classes inputs : ℕ) (table : List (List Seen)) : Type 0 where
   pub long : length table ≡ classes
   pub rows : (a : ℕ) → a < classes → IsRowOf (having (record { input = i; class = a }) choices) inputs (slice_index_or table a [])
-
--- the choices of languages
-abbrev pub choices_of : List Language → List (List ℕ)
-choices_of languages = map (λ language. language.choice) languages
 
 -- a choice of one class for each input of the problem
 pub record IsChoice (problem : Problem) (choice : List ℕ) : Type 0 where

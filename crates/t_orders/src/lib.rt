@@ -15,6 +15,8 @@ mod table;
 #[cfg(test)]
 mod tests;
 
-pub use laws::{implied_by_languages, one_language_for_each_ranking, possible_by_languages};
+pub use laws::{
+    implied_by_languages, one_language_for_each_ranking, possible_by_languages, told_by_languages,
+};
 pub use listing::implications;
 pub use refutation::Implication;

@@ -2,7 +2,7 @@
 
 ghost use Rattle.std.specs.Prelude.{◌≡◌, ◌<◌, ◌≤◌, ◌++◌, [], All, IfOk, OnOk, length, slice_index_or};
 ghost use Rattle.refutation.specs.Typologies.{found_of};
-ghost use Rattle.t_orders.specs.Implications.{AreLanguages, implications};
+ghost use Rattle.t_orders.specs.Implications.{AreLanguages, choices_of, implications, implications_by};
 ghost use Rattle.t_orders.specs.Rows.{implied_at, implied_by_table, seen_at};
 
 use crate::row::Row;
@@ -15,14 +15,16 @@ use violation_profiles::Problem;
 
 /// The implications between outputs of different inputs of a problem, in order of the implying input and class and then of the
 /// implied ones, all numbered from 0. One is listed where some ranking makes the implying class optimal in its input, and every
-/// ranking that does makes the implied class optimal in its own. The languages are those of the problem, in order.
+/// ranking that does makes the implied class optimal in its own. The languages are those of the problem, in order, and
+/// these are the implications that their choices tell.
 pub fn implications(
     alloc: Global,
     p: &Problem,
     languages: &[Language],
 ) -> Result<List<Implication>, NoMemory>
     requires { AreLanguages p.now (found_of languages.now) }
-    ensures { IfOk result (λ listed. listed ≡ implications p.now) }
+    ensures listed { IfOk result (λ listed. listed ≡ implications p.now) }
+    ensures told { IfOk result (λ listed. listed ≡ implications_by p.now (choices_of languages.now)) }
 {
     let mut listed = List::new(alloc);
     for i in 0..p.inputs() {

@@ -2,7 +2,8 @@
 
 ghost use Rattle.std.specs.Prelude.{◌≡◌, ◌<◌, ℕ, [], All, IfOk, length};
 ghost use Rattle.ot_theory.specs.Languages.{classes_at};
-ghost use Rattle.t_orders.specs.Rows.{choices_of, IsChoice, IsTableOf};
+ghost use Rattle.t_orders.specs.Implications.{choices_of};
+ghost use Rattle.t_orders.specs.Rows.{IsChoice, IsTableOf};
 
 use crate::row::Row;
 use erc_vectors::NoMemory;

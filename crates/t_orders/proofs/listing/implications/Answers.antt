@@ -2,9 +2,11 @@ use Rattle.std.proofs.Common.{◌≡◌, ℕ, List, All, ◌∙◌, ◌++◌, ap
 use Rattle.ot_theory.specs.Rankings.{numbers_below}
 use Rattle.ot_theory.specs.Languages.{classes_at, languages}
 use Rattle.t_orders.specs.declared.seen.Seen.{Seen}
-use Rattle.t_orders.specs.Rows.{choices_of, IsChoice, implied_by_table}
+use Rattle.t_orders.specs.Implications.{choices_of, implications_by}
+use Rattle.t_orders.specs.Rows.{IsChoice, implied_by_table}
 use Rattle.t_orders.proofs.OneLanguage.{IsChoice-languages}
 use Rattle.t_orders.proofs.Listed.{choices-found, few_classes, row_widths, from_input, input-more, listed-whole}
+use Rattle.t_orders.proofs.Told.{told_by_languages}
 use Rattle.t_orders.proofs.listing.implications.Goals as goal
 
 pub table_of-requires-clause-choices : goal.table_of-requires-clause-choices
@@ -30,7 +32,12 @@ loop-i-preserved c =
     input-more c.args.p.now (choices_of c.args.languages.now) c.loop-i.i c.in_ok-table.table.items c.loop-i.listed c.add_by_table.new.listed c.inputs-i-end.ensures.well_formed (omega (arith, c.loop-i-test.true, c.inputs-i-end.ensures.value)) same c.in_ok-table.ensures c.loop-i.invariant
     (c.in_ok-add_by_table.ensures ∙ ap (λ (t : List (List Seen)). c.loop-i.listed ++ implied_by_table c.loop-i.i t) c.deref.ensures.value)
 
-pub returns : goal.returns
-returns c =
+pub returns-clause-listed : goal.returns-clause-listed
+returns-clause-listed c =
     let all : c.loop-i.i ≡ length c.args.p.now.inputs = omega (arith, c.loop-i-test.false, c.loop-i.auto.i-end, c.inputs-i-end.ensures.value) in
     c.loop-i.invariant ∙ ap (λ (n : ℕ). flat_map (from_input c.args.p.now) (numbers_below n)) all ∙ sym (listed-whole c.args.p.now)
+
+pub returns-clause-told : goal.returns-clause-told
+returns-clause-told c =
+    let same : choices_of c.args.languages.now ≡ languages c.args.p.now = choices-found c.args.languages.now ∙ c.requires in
+    returns-clause-listed c ∙ told_by_languages c.args.p.now c.inputs-i-end.ensures.well_formed ∙ ap (implications_by c.args.p.now) (sym same)

@@ -1,7 +1,8 @@
 -- the table of the languages so far
 use Rattle.std.proofs.Common.{length, take}
 use Rattle.ot_theory.specs.Languages.{classes_at}
-use Rattle.t_orders.specs.Rows.{choices_of, IsTableOf}
+use Rattle.t_orders.specs.Implications.{choices_of}
+use Rattle.t_orders.specs.Rows.{IsTableOf}
 use Rattle.t_orders.proofs.table.table_of.Given as goal
 
 abbrev pub invariant-loop-language : goal.invariant-loop-language
