@@ -4,13 +4,15 @@ use Rattle.ot_theory.specs.Problems.{Problem}
 use Rattle.demonstration_file.specs.Demonstration.{demonstration_file}
 use Rattle.refutation.specs.Typologies.{certificates_of, cuts_of, found_of}
 use Rattle.refutation.specs.declared.typology.Typology.{Typology}
+use Rattle.report_text.specs.Listings.{torder_report}
 use Rattle.report_text.specs.Reports.{typology_report}
 use Rattle.report_text.specs.Summary.{demo_report}
+use Rattle.t_orders.specs.Implications.{choices_of, implications_by}
 use Rattle.typology_workers.specs.FoundSearch.{IsFoundSearch}
 use Rattle.typology_workers.specs.declared.found.Found.{Found}
 use Rattle.command_words.specs.declared.settings.Settings.{Settings}
 use Rattle.command_words.specs.declared.settings.Settings.TheVariants as asks
-use Rattle.otsoft_run.specs.Answers.{Refusal, IsTorderReport}
+use Rattle.otsoft_run.specs.Answers.{Refusal}
 use Rattle.otsoft_run.specs.declared.judging.Posed.{Posed}
 
 -- how many workers and how many places a search in threads has, which several workers make
@@ -36,10 +38,14 @@ abbrev pub summary_of : ℕ → Posed → Typology → List ℕ
 summary_of number posed typology =
     demo_report number (length (demonstration_file number)) (length typology.languages) (length typology.certificates) (length typology.cuts) (length (report_of posed typology))
 
--- The report of a command is made from a typology. The implications are those of its languages.
+-- the report of the implications that the languages of a found typology tell
+abbrev pub listing_of : Posed → Typology → List ℕ
+listing_of posed typology = torder_report posed.tableau posed.problem (implications_by posed.problem (choices_of typology.languages))
+
+-- The report of a command is made from a typology.
 abbrev pub IsMadeFrom : Settings → Posed → Typology → List ℕ → Type 0
 IsMadeFrom (asks.Typology file workers places schedule) posed typology report = report ≡ report_of posed typology
-IsMadeFrom (asks.Torder file workers places) posed typology report = IsTorderReport posed report
+IsMadeFrom (asks.Torder file workers places) posed typology report = report ≡ listing_of posed typology
 IsMadeFrom (asks.Rank file faith) posed typology report = ⊤
 IsMadeFrom (asks.Bases file) posed typology report = ⊤
 IsMadeFrom (asks.Hasse file) posed typology report = ⊤

@@ -7,7 +7,7 @@ ghost use Rattle.search_machine.specs.declared.machine.TheConstants.{WORKER_LIMI
 ghost use Rattle.otsoft_run.specs.declared.status.Status.{Status};
 ghost use Rattle.typology_workers.specs.FoundSearch.{IsTypologyOf};
 ghost use Rattle.otsoft_run.specs.Answers.{IsDemoReport, IsTypologyReport, IsTorderReport};
-ghost use Rattle.otsoft_run.specs.Searched.{IsSearchBy, report_of, summary_of};
+ghost use Rattle.otsoft_run.specs.Searched.{IsSearchBy, listing_of, report_of, summary_of};
 
 use crate::judging::Posed;
 use crate::report::{Answer, Report};
@@ -84,7 +84,7 @@ pub(crate) fn torder_answer<R: Threads + Sync, G: Gate>(
     requires poses { posed.now.problem ≡ problem_of posed.now.tableau }
     ensures report { IfOk result (λ answer. IsTorderReport posed.now answer.report.text) }
     ensures status { IfOk result (λ answer. answer.report.status ≡ Status.Done) }
-    ensures search { IfOk result (λ answer. IsSearchBy posed.now.problem workers places (λ typology. IsTorderReport posed.now answer.report.text) answer.found) }
+    ensures search { IfOk result (λ answer. IsSearchBy posed.now.problem workers places (λ typology. answer.report.text ≡ listing_of posed.now typology) answer.found) }
 {
     if workers == 1 {
         let alone = search_alone(alloc, &posed.problem, places)?;
@@ -157,7 +157,8 @@ fn typology_report(alloc: Global, posed: &Posed, typology: &Typology) -> Result<
 fn torder_report(alloc: Global, posed: &Posed, typology: &Typology) -> Result<Label, NoMemory>
     requires poses { posed.now.problem ≡ problem_of posed.now.tableau }
     requires found { IsTypologyOf posed.now.problem typology.now }
-    ensures { IfOk result (IsTorderReport posed.now) }
+    ensures made { IfOk result (λ report. report ≡ listing_of posed.now typology.now) }
+    ensures right { IfOk result (IsTorderReport posed.now) }
 {
     let list = implications(alloc, &posed.problem, typology.languages.as_slice())?;
     torder_text(alloc, &posed.tableau, &posed.problem, list.as_slice())
