@@ -224,6 +224,20 @@ impl<'p> Machine<'p> {
         is_filled(&self.queues, w)
     }
 
+    /// Whether a worker may consult the store.
+    pub fn may_consult(&self, w: usize) -> bool
+        ensures { result ≡ is_enabled self.now.state (Step.Consult w) }
+    {
+        may_consult(&self.hands, w, self.store.len())
+    }
+
+    /// Whether a worker may put a prefix into its queue.
+    pub fn may_put(&self, w: usize) -> bool
+        ensures { result ≡ is_enabled self.now.state (Step.Put w) }
+    {
+        is_filled(&self.outboxes, w)
+    }
+
     /// Whether a step is enabled. No step of a worker out of range is.
     pub fn enabled(&self, s: Step) -> bool
         ensures { result ≡ is_enabled self.now.state s }
