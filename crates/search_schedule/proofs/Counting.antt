@@ -1,15 +1,16 @@
 -- How many steps of a worker are enabled, and what stands at a place among its steps.
 use Rattle.std.proofs.Common.{◌≡◌, ℕ, zero, suc, ◌+◌, ◌<◌, ◌≤◌, List, [], ◌∷◌, ◌++◌, Bool, true, false, not, ◌&&◌, ◌==◌, arith, refl, sym, ◌∙◌, ap, inl, inr, length, length-append, map, take, subst, Option, Some, None}
-use Rattle.std.specs.Prelude.{slice_get, count_by, nat_lt}
+use Rattle.std.specs.Prelude.{slice_get, count_by, is_none, nat_lt}
 use Rattle.std.specs.Option.{option_map_or}
 use Rattle.std.proofs.lemmas.Bool.Decides.{eqb_tells}
+use Rattle.std.proofs.Math.Seq.{take-append_seam}
 use Rattle.std.proofs.lemmas.List.{take_all}
 use Rattle.std.proofs.lemmas.List.Sums.{count_by-le-length, length-filter, sum_by-append, sum_by-cons, sum_by_push}
 use Rattle.std.proofs.lemmas.List.FromFn.{length-range_with_len, get_or-map-range_with_len, length-map-range_with_len}
 use Rattle.std.proofs.lemmas.Option.{slice_get-get_or}
 use Rattle.ot_theory.specs.Rankings.{numbers_below}
 use Rattle.ot_theory.proofs.Terms.{numbers_below-more}
-use Rattle.search_machine.specs.Machine.{Hand, State, is_enabled, is_filled, is_holding, is_idle, is_unknown}
+use Rattle.search_machine.specs.Machine.{Hand, Mark, State, is_enabled, is_filled, is_holding, is_idle, is_unknown}
 use Rattle.search_machine.specs.declared.step.Step.{Step}
 use Rattle.search_machine.specs.declared.step.Step.TheVariants.{Take, Steal, Consult, Learn, Settle, Put}
 use Rattle.search_machine.proofs.Slots.{idle-here}
@@ -119,12 +120,42 @@ and-false : (a : Bool) → (a && false) ≡ false
 and-false true = refl
 and-false false = refl
 
+took-none : (state : State) (w : ℕ) → is_idle state.hands w ≡ false → one_where state (Take w) ≡ 0
+took-none state w busy = ap (λ b. bit (b && is_filled state.queues w)) busy
+
+stole-none : (state : State) (w : ℕ) → is_idle state.hands w ≡ false → count_by (λ v. is_enabled state (Steal w v)) (numbers_below (length state.hands)) ≡ 0
+stole-none state w busy = count-none (λ v. is_enabled state (Steal w v)) (numbers_below (length state.hands)) (λ v. ap (λ b. not (v == w) && (b && is_filled state.queues v)) busy ∙ and-false (not (v == w)))
+
+-- A prefix in a hand is judged or settled.
+one-held : (mark : Mark) → bit (is_unknown mark) + bit (not (is_unknown mark)) ≡ 1
+one-held mark = by (is_unknown mark)
+  where
+    by : (b : Bool) → bit b + bit (not b) ≡ 1
+    by true = refl
+    by false = refl
+
+one-of-two : (slot : Option (Option Hand)) (hand : Option Hand) → slot ≡ Some hand → option_map_or (λ (x : Option Hand). is_none x) slot false ≡ false
+    → bit (option_map_or (λ (x : Option Hand). option_map_or (λ (y : Hand). is_unknown y.mark) x false) slot false) + bit (option_map_or (λ (x : Option Hand). option_map_or (λ (y : Hand). not (is_unknown y.mark)) x false) slot false) ≡ 1
+one-of-two None hand e busy = absurd (cc)
+one-of-two (Some None) hand e busy = absurd (let d : true ≡ false = busy in cc)
+one-of-two (Some (Some held)) hand e busy = one-held held.mark
+
 -- One whose hand is not empty may not.
-pub count-busy : (state : State) (w : ℕ) → is_idle state.hands w ≡ false → length (enabled_of state w) ≡ one_where state (Consult w) + one_where state (Learn w) + one_where state (Settle w) + one_where state (Put w)
-count-busy state w busy =
-    let took : one_where state (Take w) ≡ 0 = ap (λ b. bit (b && is_filled state.queues w)) busy in
-    let stole = count-none (λ v. is_enabled state (Steal w v)) (numbers_below (length state.hands)) (λ v. ap (λ b. not (v == w) && (b && is_filled state.queues v)) busy ∙ and-false (not (v == w))) in
-    omega (arith, parts state w, took, stole)
+pub count-busy : (state : State) (w : ℕ) → w < length state.hands → is_idle state.hands w ≡ false → length (enabled_of state w) ≡ one_where state (Consult w) + 1 + one_where state (Put w)
+count-busy state w h busy =
+    let two : one_where state (Learn w) + one_where state (Settle w) ≡ 1 = one-of-two (slice_get state.hands w) _ (slice_get-get_or state.hands w None h) busy in
+    omega (arith, parts state w, took-none state w busy, stole-none state w busy, two)
+
+-- So none of its first steps is enabled.
+abbrev firsts : ℕ → ℕ → List Step
+firsts workers w = Take w ∷ steals workers w
+
+pub busy-first : (state : State) (w : ℕ) → is_idle state.hands w ≡ false → count_by (is_enabled state) (take (length state.hands + 1) (steps_of (length state.hands) w)) ≡ 0
+busy-first state w busy =
+    let n = length state.hands in
+    let long : n + 1 ≡ length (firsts n w) = omega (arith, length-map-range_with_len (λ v. Steal w v) 0 n) in
+    let none : count_by (is_enabled state) (firsts n w) ≡ 0 = omega (arith, sum_by-cons (one_where state) (Take w) (steals n w), count-map (is_enabled state) (λ v. Steal w v) (numbers_below n), took-none state w busy, stole-none state w busy) in
+    ap (λ k. count_by (is_enabled state) (take k (steps_of n w))) long ∙ ap (count_by (is_enabled state)) (take-append_seam (firsts n w) (others w)) ∙ none
 
 pub count-few : (test : ℕ → Bool) (n : ℕ) → count_by test (numbers_below n) ≤ n
 count-few test n = omega (arith, count_by-le-length test (numbers_below n), length-range_with_len 0 n)

@@ -1,6 +1,6 @@
 //! Which step is drawn among those that are enabled.
 
-ghost use Rattle.std.specs.Prelude.{◌≡◌, ◌≤◌, ◌<◌, ◌+◌, [], true, length, count_by, slice_get, if◌then◌else◌, IfSome, IfNone, Some};
+ghost use Rattle.std.specs.Prelude.{◌≡◌, ◌≤◌, ◌<◌, ◌+◌, [], true, length, count_by, slice_get, take, if◌then◌else◌, IfSome, IfNone, Some};
 ghost use Rattle.number_draws.specs.Draws.{next_state};
 ghost use Rattle.ot_theory.specs.Rankings.{numbers_below};
 ghost use Rattle.search_machine.specs.Machine.{is_empty, is_enabled, is_filled};
@@ -28,7 +28,7 @@ fn one_if(condition: bool) -> usize
 }
 
 /// How many steps of a worker are enabled, where so many queues are filled. One whose hand is empty may take or steal from each
-/// of these.
+/// of these. Of one whose hand is not, either Learn or Settle is.
 fn enabled_of(machine: &Machine, w: usize, filled: usize) -> usize
     requires worker { w < length machine.now.state.hands }
     requires few { length machine.now.state.hands ≤ WORKER_LIMIT }
@@ -36,14 +36,12 @@ fn enabled_of(machine: &Machine, w: usize, filled: usize) -> usize
     ensures enabled { result ≡ length (enabled_of machine.now.state w) }
     ensures few { result ≤ WORKER_LIMIT + 4 }
 {
-    let put = one_if(machine.enabled(Step::Put(w)));
+    let put = one_if(machine.may_put(w));
     if machine.is_idle(w) {
         return filled + put;
     }
-    let consult = one_if(machine.enabled(Step::Consult(w)));
-    let learn = one_if(machine.enabled(Step::Learn(w)));
-    let settle = one_if(machine.enabled(Step::Settle(w)));
-    consult + learn + settle + put
+    let consult = one_if(machine.may_consult(w));
+    consult + 1 + put
 }
 
 /// How many steps are enabled, where so many queues are filled.
@@ -80,6 +78,19 @@ fn step_at(workers: usize, w: usize, place: usize) -> Step
     }
 }
 
+/// The place among all steps of a worker from which on some may be enabled: one whose hand is not empty takes and steals nothing.
+fn first_of(machine: &Machine, w: usize) -> usize
+    requires { length machine.now.state.hands ≤ WORKER_LIMIT }
+    ensures few { result ≤ length machine.now.state.hands + 1 }
+    ensures none { count_by (is_enabled machine.now.state) (take result (steps_of (length machine.now.state.hands) w)) ≡ 0 }
+{
+    if machine.is_idle(w) {
+        return 0;
+    }
+    let workers = machine.workers();
+    workers + 1
+}
+
 /// The step at a place among those of a worker that are enabled.
 fn nth_of(machine: &Machine, w: usize, place: usize) -> Option<Step>
     requires few { length machine.now.state.hands ≤ WORKER_LIMIT }
@@ -87,8 +98,9 @@ fn nth_of(machine: &Machine, w: usize, place: usize) -> Option<Step>
     ensures enabled { IfSome result (λ step. is_enabled machine.now.state step ≡ true) }
 {
     let workers = machine.workers();
+    let first = first_of(machine, w);
     let mut left = place;
-    for k in 0..workers + 5 {
+    for k in first..workers + 5 {
         let step = step_at(workers, w, k);
         if machine.enabled(step) {
             if left == 0 {

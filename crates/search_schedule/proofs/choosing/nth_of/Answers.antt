@@ -5,6 +5,9 @@ use Rattle.search_schedule.proofs.Places.{bit}
 use Rattle.search_schedule.proofs.choosing.nth_of.Goals as goal
 use Rattle.search_schedule.proofs.choosing.nth_of.Goals.{then-enabled+else-left-eq0, else-enabled}
 
+pub loop-k-init : goal.loop-k-init
+loop-k-init c = omega (arith, c.first_of-first.ensures.none)
+
 pub returns-then-left-eq0-clause-step : goal.returns-then-left-eq0-clause-step
 returns-then-left-eq0-clause-step c =
     step-found c.args.machine.now.state c.workers-workers.result c.args.w c.loop-k.k c.args.place c.loop-k.left c.step_at-step.result c.workers-workers.ensures.hands c.step_at-step.ensures (sym c.enabled.ensures ∙ c.if-enabled.true) c.loop-k.invariant c.if-left-eq0.true
