@@ -18,6 +18,9 @@ use refutation::{Asked, Contradiction, core_of_conditions};
 use std::alloc::Global;
 use violation_profiles::Problem;
 
+/// For how many terms of a prefix there is room before the lists grow.
+const ROOM: usize = 16;
+
 /// What a class of an input asks.
 #[derive(Debug, Drop)]
 pub(crate) struct Entry {
@@ -121,7 +124,10 @@ impl Ready {
         ensures made { AreMade p.now self.new }
     {
         prove!(prefix.len() <= p.inputs());
-        let mut asked = Asked::nothing(alloc);
+        let mut asked = Asked {
+            terms: Vec::with_capacity(alloc, ROOM)?,
+            conditions: Vec::with_capacity(alloc, ROOM)?,
+        };
         for (i, class) in prefix.iter().enumerate() {
             self.add_needed(alloc, p, InId(i as u32), *class, &mut asked)?;
         }

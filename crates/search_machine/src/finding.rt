@@ -9,14 +9,11 @@ ghost use Rattle.search_machine.specs.Findings.{IsJudged, fate_for};
 ghost use Rattle.violation_profiles.specs.WellFormed.{IsPrefix};
 
 use erc_vectors::NoMemory;
-use ot_base::{ClassId, InId};
+use ot_base::ClassId;
 use refutation::{Asked, Finding, Prefix, asked_of, judge_terms};
 use search_deeds::{Fate, Ready};
 use std::alloc::Global;
 use violation_profiles::Problem;
-
-/// For how many terms there is room before a list grows.
-const ROOM: usize = 16;
 
 /// Judges a prefix of the problem by demotion: the least hierarchy of its conditions, or, where no ranking keeps them, the
 /// certificate of its terms.
@@ -40,32 +37,8 @@ pub fn judge_with(
     ensures judged { IfOk result (IsJudged p.now (class_numbers prefix.now)) }
     ensures made { AreMade p.now ready.new }
 {
-    let asked = asked_by(alloc, p, ready, prefix)?;
+    let asked = ready.asked_by(alloc, p, prefix)?;
     judge_asked(alloc, p, prefix, asked)
-}
-
-/// What the classes of a prefix ask, without what earlier ones imply. The lists begin with room for as many terms as most prefixes
-/// need.
-fn asked_by(
-    alloc: Global,
-    p: &Problem,
-    ready: &mut Ready,
-    prefix: &[ClassId],
-) -> Result<Asked, NoMemory>
-    requires prefix { IsPrefix p.now (class_numbers prefix.now) }
-    requires made { AreMade p.now ready.old }
-    ensures asked { IfOk result (λ asked. AreAsked p.now (terms_of p.now (class_numbers prefix.now)) asked.terms.items asked.conditions.items) }
-    ensures made { AreMade p.now ready.new }
-{
-    prove!(prefix.len() <= p.inputs());
-    let mut asked = Asked {
-        terms: Vec::with_capacity(alloc, ROOM)?,
-        conditions: Vec::with_capacity(alloc, ROOM)?,
-    };
-    for (i, class) in prefix.iter().enumerate() {
-        ready.add_needed(alloc, p, InId(i as u32), *class, &mut asked)?;
-    }
-    Ok(asked)
 }
 
 /// The same where this is what its classes ask.

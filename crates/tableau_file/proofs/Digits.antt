@@ -4,7 +4,7 @@ use Rattle.std.specs.Prelude.{nat_le}
 use Rattle.std.specs.List.{list_all, prefix_len, range_with_len}
 use Rattle.std.proofs.Math.Numerals.{add-one}
 use Rattle.std.proofs.lemmas.Bool.{ne_eqb, le-leb, leb-true}
-use Rattle.std.proofs.lemmas.List.{take_more, take_all, take-append-le, length-map, length-take-le, get_or-map, map_push}
+use Rattle.std.proofs.lemmas.List.{take_more, get_or-map, map_push}
 use Rattle.std.proofs.lemmas.List.Folds.{list_all-append}
 use Rattle.std.proofs.lemmas.List.Sums.{prefix_len-le-length, prefix_len_passes}
 use Rattle.tab_cells.specs.Cells.{is_one_digit, digit_of, text_of, trimmed, trimmed_start, trimmed_end}
@@ -77,15 +77,6 @@ digits-are_values (suc t) cells h =
     ∙ ap (λ (l : List ℕ). l ++ digit_of first ∷ []) (digits-are_values t cells (omega (arith, h)))
     ∙ ap (λ (v : ℕ). map value_of before ++ v ∷ []) (sym value)
     ∙ sym (ap (map value_of) (columns_more t texts) ∙ map_push value_of before (cell texts t)))
-
--- the numbers of such cells, before others
-pub length-digits : (t : ℕ) (cells : List (List ℕ)) → t ≤ prefix_len is_one_digit cells → length (map digit_of (take t cells)) ≡ t
-length-digits t cells h = length-map (take t cells) digit_of ∙ length-take-le t cells (omega (arith, h, prefix_len-le-length is_one_digit cells))
-
-pub take-digits : (t : ℕ) (cells : List (List ℕ)) (others : List ℕ) → t ≤ prefix_len is_one_digit cells → take t (map digit_of (take t cells) ++ others) ≡ map digit_of (take t cells)
-take-digits t cells others h =
-    let long = length-digits t cells h in
-    take-append-le t (map digit_of (take t cells)) others (omega (arith, long)) ∙ take_all t (map digit_of (take t cells)) (omega (arith, long))
 
 -- the same of a cell by its one byte
 pub violation-single : (cell : List ℕ) → length cell ≡ 1 → 48 ≤ get_or cell 0 0 → get_or cell 0 0 ≤ 57 → is_violation (text_of cell) ≡ true
