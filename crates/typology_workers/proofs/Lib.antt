@@ -16,5 +16,6 @@ pub mod Fates
 pub mod Consults
 pub mod Settles
 pub mod Indexing
+pub mod Going
 pub mod Turning
 pub mod Seated

@@ -7,5 +7,6 @@ pub mod Gatherings
 pub mod Packets
 pub mod Found
 pub mod Indexed
+pub mod Paths
 pub mod Turns
 pub mod Turned

@@ -3,20 +3,20 @@
 ghost use Rattle.std.specs.Prelude.{◌≡◌, ◌≤◌, ◌⊎◌, length, option_copied, IfOk, OnOk};
 ghost use Rattle.ot_base.specs.Causes.{next_number};
 ghost use Rattle.refutation.specs.Prefixes.{class_numbers};
-ghost use Rattle.search_deeds.specs.Made.{AreMade};
 ghost use Rattle.typology_workers.specs.Consulted.{HoldsAll};
 ghost use Rattle.typology_workers.specs.Found.{IsFound, IsFoundIn, IsKeptFor, value_for};
 ghost use Rattle.typology_workers.specs.Indexed.{IsIndex};
+ghost use Rattle.typology_workers.specs.Paths.{IsPathOf};
 ghost use Rattle.typology_workers.specs.Stays.{KeepsFront};
 ghost use Rattle.violation_profiles.specs.WellFormed.{IsPrefix};
 
 use crate::index::Index;
+use crate::path::Path;
 use erc_vectors::NoMemory;
 use ot_base::ClassId;
 use refutation::{Contradiction, Prefix};
 use refutation_store::{Front, Store};
-use search_deeds::Ready;
-use search_machine::{Finding, judge_with};
+use search_machine::Finding;
 use std::alloc::Global;
 use violation_profiles::Problem;
 
@@ -38,22 +38,22 @@ pub(crate) fn find(
     store: &Store,
     front: &mut Front,
     index: &mut Index,
-    ready: &mut Ready,
+    path: &mut Path,
     prefix: &Prefix,
 ) -> Result<Finding, NoMemory>
     requires store { front.old.store ≡ store.now }
     requires index { IsIndex p.now index.old.slots.items index.old.indexed front.old.values }
     requires prefix { IsPrefix p.now prefix.now }
-    requires made { AreMade p.now ready.old }
+    requires path { IsPathOf p.now path.old }
     ensures stays { KeepsFront (length store.now) front.old front.new }
-    ensures made { AreMade p.now ready.new }
+    ensures path { OnOk result (IsPathOf p.now path.new) }
     ensures index { OnOk result (IsIndex p.now index.new.slots.items index.new.indexed front.old.values) }
     ensures found { IfOk result (IsFound p.now prefix.now (value_for p.now front.old.values prefix.now)) }
     ensures kept { IfOk result (IsFoundIn (length store.now) (value_for p.now front.old.values prefix.now) front.old.values front.new.values) }
 {
     match consult(p, store, front, index, prefix.as_slice())? {
         Some(value) => Ok(Finding::Refuted(value.copy()?)),
-        None => learn(alloc, p, store, front, ready, prefix),
+        None => learn(alloc, p, store, front, path, prefix),
     }
 }
 
@@ -85,18 +85,18 @@ fn learn(
     p: &Problem,
     store: &Store,
     front: &mut Front,
-    ready: &mut Ready,
+    path: &mut Path,
     prefix: &Prefix,
 ) -> Result<Finding, NoMemory>
     requires store { front.old.store ≡ store.now }
     requires prefix { IsPrefix p.now prefix.now }
-    requires made { AreMade p.now ready.old }
+    requires path { IsPathOf p.now path.old }
     ensures stays { KeepsFront (length store.now) front.old front.new }
-    ensures made { AreMade p.now ready.new }
+    ensures path { OnOk result (IsPathOf p.now path.new) }
     ensures found { IfOk result (IsFound p.now prefix.now None) }
     ensures kept { IfOk result (IsKeptFor (length store.now) front.new.values) }
 {
-    let finding = judge_with(alloc, p, ready, prefix.as_slice())?;
+    let finding = path.judge(alloc, p, prefix.as_slice())?;
     keep(store, front, &finding)?;
     Ok(finding)
 }

@@ -31,6 +31,7 @@ mod learning;
 mod opening;
 mod outcome;
 mod parting;
+mod path;
 mod rest;
 mod running;
 mod searching;

@@ -2,8 +2,8 @@
 
 ghost use Rattle.std.specs.Prelude.{◌≡◌, All, length, IfOk, OnOk};
 ghost use Rattle.prefix_deques.specs.Lanes.{HasPlaces};
-ghost use Rattle.search_deeds.specs.Made.{AreMade};
 ghost use Rattle.typology_workers.specs.Indexed.{IsIndex};
+ghost use Rattle.typology_workers.specs.Paths.{IsPathOf};
 ghost use Rattle.typology_workers.specs.Stays.{KeepsFront, KeepsSeat};
 ghost use Rattle.typology_workers.specs.Turned.{HasSettled, IsFated};
 ghost use Rattle.typology_workers.specs.Worked.{IsWorked};
@@ -14,12 +14,13 @@ use crate::handing::open;
 use crate::index::Index;
 use crate::learning::{find, look_all};
 use crate::outcome::Work;
+use crate::path::Path;
 use erc_vectors::{List, NoMemory};
 use ot_base::Gate;
 use prefix_deques::Seat;
 use refutation::{Prefix, is_prefix};
 use refutation_store::{Front, Store};
-use search_deeds::{Deed, Deeds, Fate, Ready};
+use search_deeds::{Deed, Deeds, Fate};
 use search_machine::fate_for;
 use std::alloc::Global;
 use violation_profiles::Problem;
@@ -58,7 +59,7 @@ pub fn work<G: Gate>(
         strange: List::new(alloc),
     };
     let mut index = Index::new(alloc, store.places())?;
-    let mut ready = Ready::new(alloc, p)?;
+    let mut path = Path::start(alloc, p)?;
     let mut idle = 0;
     let mut taken = 0;
     for turn in 0..TURNS {
@@ -69,7 +70,7 @@ pub fn work<G: Gate>(
         match get(seat) {
             Some(prefix) => {
                 settle(
-                    alloc, p, seat, store, front, &mut index, &mut ready, &mut work, prefix,
+                    alloc, p, seat, store, front, &mut index, &mut path, &mut work, prefix,
                 )?;
                 idle = 0;
                 taken += 1;
@@ -88,15 +89,15 @@ fn settle(
     store: &Store,
     front: &mut Front,
     index: &mut Index,
-    ready: &mut Ready,
+    path: &mut Path,
     work: &mut Work,
     prefix: Prefix,
 ) -> Result<(), NoMemory>
     requires store { front.old.store ≡ store.now }
     requires index { IsIndex p.now index.old.slots.items index.old.indexed front.old.values }
     requires places { HasPlaces seat.old }
-    requires made { AreMade p.now ready.old }
-    ensures made { AreMade p.now ready.new }
+    requires path { IsPathOf p.now path.old }
+    ensures path { OnOk result (IsPathOf p.now path.new) }
     ensures index { OnOk result (IsIndex p.now index.new.slots.items index.new.indexed front.new.values) }
     ensures seat { KeepsSeat seat.old seat.new }
     ensures front { KeepsFront (length store.now) front.old front.new }
@@ -106,7 +107,7 @@ fn settle(
         work.strange.push(prefix)?;
         return Ok(());
     }
-    let fate = fate_of(alloc, p, store, front, index, ready, &prefix)?;
+    let fate = fate_of(alloc, p, store, front, index, path, &prefix)?;
     open(p, seat, &mut work.outbox, &prefix, &fate)?;
     work.deeds.push(Deed { prefix, fate })?;
     Ok(())
@@ -119,19 +120,19 @@ fn fate_of(
     store: &Store,
     front: &mut Front,
     index: &mut Index,
-    ready: &mut Ready,
+    path: &mut Path,
     prefix: &Prefix,
 ) -> Result<Fate, NoMemory>
     requires store { front.old.store ≡ store.now }
     requires index { IsIndex p.now index.old.slots.items index.old.indexed front.old.values }
     requires prefix { IsPrefix p.now prefix.now }
-    requires made { AreMade p.now ready.old }
-    ensures made { AreMade p.now ready.new }
+    requires path { IsPathOf p.now path.old }
+    ensures path { OnOk result (IsPathOf p.now path.new) }
     ensures index { OnOk result (IsIndex p.now index.new.slots.items index.new.indexed front.new.values) }
     ensures front { KeepsFront (length store.now) front.old front.new }
     ensures fated { IfOk result (IsFated p.now (length store.now) prefix.now front.old front.new) }
 {
     look_all(store, front);
-    let finding = find(alloc, p, store, front, index, ready, prefix)?;
+    let finding = find(alloc, p, store, front, index, path, prefix)?;
     Ok(fate_for(p, prefix, finding))
 }

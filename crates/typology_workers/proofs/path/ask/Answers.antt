@@ -1,0 +1,8 @@
+-- What a class asks is made, and what the others imply is left out.
+use Rattle.std.proofs.lemmas.Result.{on_ok_weaker}
+use Rattle.ot_theory.specs.Languages.{classes_at, terms_of_class}
+use Rattle.typology_workers.proofs.path.ask.Goals as goal
+
+pub returns-in-Some-clause-asked : goal.returns-in-Some-clause-asked
+returns-in-Some-clause-asked c =
+    on_ok_weaker c.append_needed.result (λ more whole asked. more c.args.p.now whole (terms_of_class (classes_at c.args.p.now c.args.input.0) c.args.input.0 c.args.class.0) asked (c.in-Some.ensures c.args.p.now c.requires.made)) c.append_needed.ensures.asked

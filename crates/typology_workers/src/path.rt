@@ -1,0 +1,174 @@
+//! The prefix that was judged last, and what its classes ask of a ranking.
+//!
+//! Of the prefixes that a worker judges one after another most are children of one parent, or of parents that differ in their last
+//! classes. So what is asked by the classes that a prefix shares with the one before it is kept, and only what its other classes
+//! ask is added.
+
+ghost use Rattle.std.specs.Prelude.{◌≡◌, ◌<◌, ◌≤◌, List, ◌∷◌, [], ◌++◌, length, take, IfOk, OnOk};
+ghost use Rattle.ot_theory.specs.Problems as problems;
+ghost use Rattle.ot_theory.specs.Languages as theory;
+ghost use Rattle.ot_theory.specs.Languages.{classes_at, terms_of_class};
+ghost use Rattle.refutation.specs.Asked.{AreAsked, Begins};
+ghost use Rattle.refutation.specs.Prefixes.{class_numbers};
+ghost use Rattle.search_deeds.specs.Made.{AreMade};
+ghost use Rattle.search_machine.specs.Findings.{IsJudged};
+ghost use Rattle.typology_workers.specs.Paths.{IsPathOf, prefix_of};
+ghost use Rattle.violation_profiles.specs.WellFormed.{IsPrefix};
+
+use demotion::least_hierarchy;
+use erc_vectors::{Condition, NoMemory};
+use ot_base::{ClassId, INPUT_LIMIT, InId};
+use refutation::{Asked, core_of_conditions};
+use search_deeds::Ready;
+use search_machine::Finding;
+use std::alloc::Global;
+use violation_profiles::Problem;
+
+/// A class of the prefix, and how many terms the classes before it ask for.
+#[derive(Drop)]
+pub(crate) struct Step {
+    pub(crate) class: ClassId,
+    pub(crate) before: usize,
+}
+
+/// The prefix that was judged last, what its classes ask of a ranking, and what each class of each input asks, as far as it is made.
+#[derive(Drop)]
+pub(crate) struct Path {
+    pub(crate) steps: Vec<Step>,
+    pub(crate) asked: Asked,
+    pub(crate) ready: Ready,
+}
+
+impl Path {
+    /// The empty prefix.
+    pub(crate) fn start(alloc: Global, p: &Problem) -> Result<Path, NoMemory>
+        ensures { IfOk result (IsPathOf p.now) }
+    {
+        Ok(Path {
+            steps: Vec::new(alloc),
+            asked: Asked::nothing(alloc),
+            ready: Ready::new(alloc, p)?,
+        })
+    }
+
+    /// Judges a prefix of the problem by demotion: the least hierarchy of its conditions, or, where no ranking keeps them, the
+    /// certificate of its terms.
+    pub(crate) fn judge(
+        &mut self,
+        alloc: Global,
+        p: &Problem,
+        prefix: &[ClassId],
+    ) -> Result<Finding, NoMemory>
+        requires prefix { IsPrefix p.now (class_numbers prefix.now) }
+        requires path { IsPathOf p.now self.old }
+        ensures judged { IfOk result (IsJudged p.now (class_numbers prefix.now)) }
+        ensures path { OnOk result (IsPathOf p.now self.new) }
+    {
+        self.go_to(alloc, p, prefix)?;
+        self.judge_here(alloc, p)
+    }
+
+    /// Goes to a prefix of the problem.
+    fn go_to(&mut self, alloc: Global, p: &Problem, prefix: &[ClassId]) -> Result<(), NoMemory>
+        requires prefix { IsPrefix p.now (class_numbers prefix.now) }
+        requires path { IsPathOf p.now self.old }
+        ensures path { OnOk result (IsPathOf p.now self.new) }
+        ensures there { OnOk result (prefix_of self.new ≡ class_numbers prefix.now) }
+    {
+        let shared = self.shared(prefix);
+        self.go_back(shared);
+        for k in shared..prefix.len() {
+            self.go_on(alloc, p, prefix[k])?;
+        }
+        Ok(())
+    }
+
+    /// How many classes at its front the path shares with a prefix.
+    fn shared(&self, prefix: &[ClassId]) -> usize
+        ensures within { result ≤ length prefix.now }
+        ensures on { result ≤ length self.now.steps.items }
+        ensures front { take result (prefix_of self.now) ≡ take result (class_numbers prefix.now) }
+    {
+        let limit = self.steps.len().min(prefix.len());
+        for k in 0..limit {
+            if self.steps[k].class != prefix[k] {
+                return k;
+            }
+        }
+        limit
+    }
+
+    /// Goes back to the first classes of the path.
+    fn go_back(&mut self, kept: usize)
+        ensures path { (p : problems.Problem) → IsPathOf p self.old → IsPathOf p self.new }
+        ensures there { prefix_of self.new ≡ take kept (prefix_of self.old) }
+    {
+        if kept < self.steps.len() {
+            self.asked.forget(self.steps[kept].before);
+            self.steps.truncate(kept);
+        }
+    }
+
+    /// Goes on to a class of the next input.
+    fn go_on(&mut self, alloc: Global, p: &Problem, class: ClassId) -> Result<(), NoMemory>
+        requires path { IsPathOf p.now self.old }
+        requires shorter { length self.old.steps.items < length p.now.inputs }
+        requires class { class.0 < length (classes_at p.now (length self.old.steps.items)) }
+        ensures path { OnOk result (IsPathOf p.now self.new) }
+        ensures there { OnOk result (prefix_of self.new ≡ prefix_of self.old ++ class.0 ∷ []) }
+    {
+        prove!(p.inputs() <= INPUT_LIMIT);
+        let input = InId(self.steps.len() as u32);
+        let before = self.asked.terms.len();
+        self.ready.make(alloc, p, input, class)?;
+        ask(p, &self.ready, input, class, &mut self.asked)?;
+        self.steps.push(Step { class, before })?;
+        Ok(())
+    }
+
+    /// Judges the prefix of the path.
+    fn judge_here(&self, alloc: Global, p: &Problem) -> Result<Finding, NoMemory>
+        requires prefix { IsPrefix p.now (prefix_of self.now) }
+        requires path { IsPathOf p.now self.now }
+        ensures { IfOk result (IsJudged p.now (prefix_of self.now)) }
+    {
+        let conditions = self.asked.conditions.as_slice();
+        match least_hierarchy(p.constraints(), conditions) {
+            Some(strata) => Ok(Finding::Holds(strata)),
+            None => {
+                let terms = self.asked.terms.as_slice();
+                let copy = copied(alloc, conditions)?;
+                let core = core_of_conditions(alloc, p, terms, copy)?;
+                Ok(Finding::Refuted(core))
+            }
+        }
+    }
+}
+
+/// Adds what a class of an input asks, without what the others imply.
+fn ask(
+    p: &Problem,
+    ready: &Ready,
+    input: InId,
+    class: ClassId,
+    asked: &mut Asked,
+) -> Result<(), NoMemory>
+    requires input { input.0 < length p.now.inputs }
+    requires class { class.0 < length (classes_at p.now input.0) }
+    requires made { AreMade p.now ready.now }
+    ensures asked { OnOk result ((whole : List theory.Term) → AreAsked p.now whole asked.old.terms.items asked.old.conditions.items
+        → AreAsked p.now (whole ++ terms_of_class (classes_at p.now input.0) input.0 class.0) asked.new.terms.items asked.new.conditions.items) }
+    ensures terms { OnOk result (Begins asked.old.terms.items asked.new.terms.items) }
+    ensures conditions { OnOk result (Begins asked.old.conditions.items asked.new.conditions.items) }
+{
+    match ready.of(input, class) {
+        Some(more) => asked.append_needed(more),
+        None => asked.add(p, input, class, 0),
+    }
+}
+
+fn copied(alloc: Global, conditions: &[Condition]) -> Result<Vec<Condition>, NoMemory>
+    ensures { IfOk result (λ copy. copy.items ≡ conditions.now) }
+{
+    Ok(Vec::from_slice(alloc, conditions)?)
+}
