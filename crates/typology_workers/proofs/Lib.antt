@@ -17,5 +17,6 @@ pub mod Consults
 pub mod Settles
 pub mod Indexing
 pub mod Going
+pub mod Sifting
 pub mod Turning
 pub mod Seated

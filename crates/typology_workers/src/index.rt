@@ -2,10 +2,14 @@
 //! prefix.
 //!
 //! A contradiction that refutes a prefix has the winner of its last term in it. So it stands in the slot of one of the classes of the
-//! prefix. Several classes may share a slot.
+//! prefix. Several classes may share a slot. Beside the place of each stand the bits of the choices that it asks for: where the
+//! prefix lacks one of them, the contradiction is passed over unseen.
 
 ghost use Rattle.std.specs.Prelude.{◌≡◌, ◌<◌, ◌≤◌, ℕ, [], length, slice_index, slice_index_or, IfOk, OnOk};
 ghost use Rattle.refutation.specs.Prefixes.{class_numbers};
+ghost use Rattle.refutation.specs.Terms.{terms_in};
+ghost use Rattle.refutation.specs.Typologies.{certificates_of};
+ghost use Rattle.search_deeds.specs.Sieved.{AreMarked, IsMarkOf, IsSieve};
 ghost use Rattle.violation_profiles.specs.WellFormed.{IsPrefix};
 ghost use Rattle.typology_workers.specs.Indexed.{CutsOffAt, Has, IsIndex, RefutesAt, last_of, slot_of, slots_with};
 
@@ -13,6 +17,7 @@ use erc_vectors::{List, NoMemory};
 use ot_base::{ClassId, INPUT_LIMIT, InId};
 use refutation::{Contradiction, is_genuine, refutes};
 use refutation_store::{Front, Store};
+use search_deeds::{bits_of, mark_of};
 use std::alloc::Global;
 use violation_profiles::Problem;
 
@@ -20,11 +25,12 @@ use violation_profiles::Problem;
 /// so that the classes of all inputs spread over any number of slots.
 const STRIDE: usize = 211;
 
-/// For each slot the places of the contradictions whose last term has its input and winner there, and how many values of the front
-/// are indexed.
+/// For each slot the places of the contradictions whose last term has its input and winner there, beside each the bits of the choices
+/// that it asks for, and how many values of the front are indexed.
 #[derive(Drop)]
 pub(crate) struct Index {
     pub(crate) slots: Vec<List<usize>>,
+    pub(crate) marks: Vec<List<u64>>,
     pub(crate) indexed: usize,
 }
 
@@ -33,13 +39,21 @@ impl Index {
     pub(crate) fn new(alloc: Global, places: usize) -> Result<Index, NoMemory>
         ensures some { IfOk result (λ index. 0 < length index.slots.items) }
         ensures empty { IfOk result (λ index. (s : ℕ) → slice_index_or index.slots.items s [] ≡ []) }
+        ensures unmarked { IfOk result (λ index. (s : ℕ) → slice_index_or index.marks.items s [] ≡ []) }
+        ensures long { IfOk result (λ index. length index.marks.items ≡ length index.slots.items) }
         ensures none { IfOk result (λ index. index.indexed ≡ 0) }
     {
         let mut slots = Vec::new(alloc);
+        let mut marks = Vec::new(alloc);
         for _slot in 0..places.max(1) {
             slots.push(List::new(alloc))?;
+            marks.push(List::new(alloc))?;
         }
-        Ok(Index { slots, indexed: 0 })
+        Ok(Index {
+            slots,
+            marks,
+            indexed: 0,
+        })
     }
 
     /// Indexes the values that the front has learnt since.
@@ -51,12 +65,14 @@ impl Index {
     ) -> Result<(), NoMemory>
         requires store { front.now.store ≡ store.now }
         requires index { IsIndex p.now self.old.slots.items self.old.indexed front.now.values }
-        ensures { OnOk result (IsIndex p.now self.new.slots.items (length front.now.values) front.now.values × (self.new.indexed ≡ length front.now.values)) }
+        requires marked { AreMarked (certificates_of front.now.values) self.old.slots.items self.old.marks.items }
+        ensures index { OnOk result (IsIndex p.now self.new.slots.items (length front.now.values) front.now.values × (self.new.indexed ≡ length front.now.values)) }
+        ensures marked { OnOk result (AreMarked (certificates_of front.now.values) self.new.slots.items self.new.marks.items) }
     {
         for place in self.indexed..front.len() {
             let value = store.seen(front, place);
             if is_genuine(p, value) {
-                add(&mut self.slots, value, place)?;
+                self.add(value, place)?;
             }
         }
         self.indexed = front.len();
@@ -74,6 +90,7 @@ impl Index {
     ) -> usize
         requires store { front.now.store ≡ store.now }
         requires index { IsIndex p.now self.now.slots.items (length front.now.values) front.now.values }
+        requires marked { AreMarked (certificates_of front.now.values) self.now.slots.items self.now.marks.items }
         requires prefix { IsPrefix p.now (class_numbers prefix.now) }
         ensures within { result ≤ length front.now.values }
         ensures hit { result < length front.now.values → CutsOffAt p.now front.now.values (class_numbers prefix.now) result }
@@ -81,13 +98,31 @@ impl Index {
     {
         prove!(prefix.len() <= p.inputs());
         prove!(p.inputs() <= INPUT_LIMIT);
+        let bits = bits_of(prefix);
         let mut best = front.len();
         for i in (0..prefix.len()).rev() {
             let slot = slot_of(self.slots.len(), InId(i as u32), prefix[i]);
-            let places = &self.slots[slot];
-            best = nearest(store, front, prefix, places.as_slice(), best);
+            let places = self.slots[slot].as_slice();
+            let marks = self.marks[slot].as_slice();
+            best = nearest(store, front, prefix, bits, places, marks, best);
         }
         best
+    }
+
+    /// Puts a place, and the bits of its value, into the slot of the last term of its value.
+    fn add(&mut self, value: &Contradiction, place: usize) -> Result<(), NoMemory>
+        requires some { 0 < length self.old.slots.items }
+        requires long { length self.old.marks.items ≡ length self.old.slots.items }
+        ensures slots { OnOk result (self.new.slots.items ≡ slots_with (last_of value.now.terms) place self.old.slots.items) }
+        ensures marks { OnOk result ((mark : ℕ) × IsMarkOf (terms_in value.now.terms) mark × (self.new.marks.items ≡ slots_with (last_of value.now.terms) mark self.old.marks.items)) }
+    {
+        let mark = mark_of(value.terms.as_slice());
+        if let Some(last) = value.terms.as_slice().last() {
+            let slot = slot_of(self.slots.len(), last.input, last.winner);
+            self.slots[slot].push(place)?;
+            self.marks[slot].push(mark)?;
+        }
+        Ok(())
     }
 }
 
@@ -100,32 +135,29 @@ fn slot_of(slots: usize, input: InId, class: ClassId) -> usize
     (input.0 as usize * STRIDE + class.0 as usize) % slots
 }
 
-/// Puts a place into the slot of the last term of its value.
-fn add(slots: &mut Vec<List<usize>>, value: &Contradiction, place: usize) -> Result<(), NoMemory>
-    requires { 0 < length slots.old.items }
-    ensures { OnOk result (slots.new.items ≡ slots_with (last_of value.now.terms) place slots.old.items) }
-{
-    match value.terms.as_slice().last() {
-        Some(last) => {
-            let slot = slot_of(slots.len(), last.input, last.winner);
-            slots[slot].push(place)
-        }
-        None => Ok(()),
-    }
-}
-
-/// The first of `best` and of those of these places whose value refutes the prefix.
-fn nearest(store: &Store, front: &Front, prefix: &[ClassId], places: &[usize], best: usize) -> usize
+/// The first of `best` and of those of these places whose value refutes the prefix, whose choices have these bits. Beside each place
+/// stand the bits that its value asks for.
+fn nearest(
+    store: &Store,
+    front: &Front,
+    prefix: &[ClassId],
+    bits: u64,
+    places: &[usize],
+    marks: &[u64],
+    best: usize,
+) -> usize
     requires store { front.now.store ≡ store.now }
+    requires sieve { IsSieve (certificates_of front.now.values) (class_numbers prefix.now) places.now marks.now bits }
     requires within { best ≤ length front.now.values }
     ensures low { result ≤ best }
     ensures hit { result < best → Has places.now result × RefutesAt front.now.values (class_numbers prefix.now) result }
     ensures all { (j : ℕ) → j < length places.now → RefutesAt front.now.values (class_numbers prefix.now) (slice_index places.now j) → result ≤ slice_index places.now j }
 {
     let mut nearest = best;
-    for place in places {
-        if *place < nearest && refutes(store.seen(front, *place), prefix) {
-            nearest = *place;
+    for k in 0..places.len() {
+        let place = places[k];
+        if marks[k] | bits == bits && place < nearest && refutes(store.seen(front, place), prefix) {
+            nearest = place;
         }
     }
     nearest

@@ -3,6 +3,8 @@
 ghost use Rattle.std.specs.Prelude.{◌≡◌, ◌≤◌, ◌⊎◌, length, option_copied, IfOk, OnOk};
 ghost use Rattle.ot_base.specs.Causes.{next_number};
 ghost use Rattle.refutation.specs.Prefixes.{class_numbers};
+ghost use Rattle.refutation.specs.Typologies.{certificates_of};
+ghost use Rattle.search_deeds.specs.Sieved.{AreMarked};
 ghost use Rattle.typology_workers.specs.Consulted.{HoldsAll};
 ghost use Rattle.typology_workers.specs.Found.{IsFound, IsFoundIn, IsKeptFor, value_for};
 ghost use Rattle.typology_workers.specs.Indexed.{IsIndex};
@@ -43,11 +45,13 @@ pub(crate) fn find(
 ) -> Result<Finding, NoMemory>
     requires store { front.old.store ≡ store.now }
     requires index { IsIndex p.now index.old.slots.items index.old.indexed front.old.values }
+    requires marked { AreMarked (certificates_of front.old.values) index.old.slots.items index.old.marks.items }
     requires prefix { IsPrefix p.now prefix.now }
     requires path { IsPathOf p.now path.old }
     ensures stays { KeepsFront (length store.now) front.old front.new }
     ensures path { OnOk result (IsPathOf p.now path.new) }
     ensures index { OnOk result (IsIndex p.now index.new.slots.items index.new.indexed front.old.values) }
+    ensures marked { OnOk result (AreMarked (certificates_of front.old.values) index.new.slots.items index.new.marks.items) }
     ensures found { IfOk result (IsFound p.now prefix.now (value_for p.now front.old.values prefix.now)) }
     ensures kept { IfOk result (IsFoundIn (length store.now) (value_for p.now front.old.values prefix.now) front.old.values front.new.values) }
 {
@@ -67,9 +71,11 @@ fn consult<'s>(
 ) -> Result<Option<&'s Contradiction>, NoMemory>
     requires store { front.now.store ≡ store.now }
     requires index { IsIndex p.now index.old.slots.items index.old.indexed front.now.values }
+    requires marked { AreMarked (certificates_of front.now.values) index.old.slots.items index.old.marks.items }
     requires prefix { IsPrefix p.now (class_numbers prefix.now) }
     ensures value { IfOk result (λ value. option_copied value ≡ value_for p.now front.now.values (class_numbers prefix.now)) }
     ensures index { OnOk result (IsIndex p.now index.new.slots.items index.new.indexed front.now.values) }
+    ensures marked { OnOk result (AreMarked (certificates_of front.now.values) index.new.slots.items index.new.marks.items) }
 {
     index.learn(p, store, front)?;
     let first = index.first(p, store, front, prefix);

@@ -2,6 +2,8 @@
 
 ghost use Rattle.std.specs.Prelude.{◌≡◌, All, length, IfOk, OnOk};
 ghost use Rattle.prefix_deques.specs.Lanes.{HasPlaces};
+ghost use Rattle.refutation.specs.Typologies.{certificates_of};
+ghost use Rattle.search_deeds.specs.Sieved.{AreMarked};
 ghost use Rattle.typology_workers.specs.Indexed.{IsIndex};
 ghost use Rattle.typology_workers.specs.Paths.{IsPathOf};
 ghost use Rattle.typology_workers.specs.Stays.{KeepsFront, KeepsSeat};
@@ -95,10 +97,12 @@ fn settle(
 ) -> Result<(), NoMemory>
     requires store { front.old.store ≡ store.now }
     requires index { IsIndex p.now index.old.slots.items index.old.indexed front.old.values }
+    requires marked { AreMarked (certificates_of front.old.values) index.old.slots.items index.old.marks.items }
     requires places { HasPlaces seat.old }
     requires path { IsPathOf p.now path.old }
     ensures path { OnOk result (IsPathOf p.now path.new) }
     ensures index { OnOk result (IsIndex p.now index.new.slots.items index.new.indexed front.new.values) }
+    ensures marked { OnOk result (AreMarked (certificates_of front.new.values) index.new.slots.items index.new.marks.items) }
     ensures seat { KeepsSeat seat.old seat.new }
     ensures front { KeepsFront (length store.now) front.old front.new }
     ensures settled { OnOk result (HasSettled p.now (length store.now) prefix seat.old seat.new front.old front.new work.old work.new) }
@@ -125,10 +129,12 @@ fn fate_of(
 ) -> Result<Fate, NoMemory>
     requires store { front.old.store ≡ store.now }
     requires index { IsIndex p.now index.old.slots.items index.old.indexed front.old.values }
+    requires marked { AreMarked (certificates_of front.old.values) index.old.slots.items index.old.marks.items }
     requires prefix { IsPrefix p.now prefix.now }
     requires path { IsPathOf p.now path.old }
     ensures path { OnOk result (IsPathOf p.now path.new) }
     ensures index { OnOk result (IsIndex p.now index.new.slots.items index.new.indexed front.new.values) }
+    ensures marked { OnOk result (AreMarked (certificates_of front.new.values) index.new.slots.items index.new.marks.items) }
     ensures front { KeepsFront (length store.now) front.old front.new }
     ensures fated { IfOk result (IsFated p.now (length store.now) prefix.now front.old front.new) }
 {

@@ -3,6 +3,7 @@ use Rattle.search_deeds.specs.declared.deed.Fate.{Fate}
 use Rattle.typology_workers.specs.Turned.{IsFated}
 use Rattle.typology_workers.proofs.Fates.{fated}
 use Rattle.typology_workers.proofs.Indexing.{index-grows}
+use Rattle.typology_workers.proofs.Sifting.{marked-grows}
 use Rattle.typology_workers.proofs.worker.fate_of.Goals as goal
 
 pub returns-clause-fated : goal.returns-clause-fated
@@ -18,3 +19,11 @@ find-requires-clause-index c =
 pub returns-clause-index : goal.returns-clause-index
 returns-clause-index c =
     index-grows c.args.p.now c.find.new.index.slots.items c.find.new.index.indexed c.look_all.new.front.values c.find.new.front.values c.in_ok-finding.ensures.index c.find.ensures.stays.values
+
+pub find-requires-clause-marked : goal.find-requires-clause-marked
+find-requires-clause-marked c =
+    marked-grows c.args.p.now c.args.index.now.slots.items c.args.index.now.marks.items c.args.index.now.indexed c.args.front.now.values c.look_all.new.front.values c.requires.index c.requires.marked c.look_all.ensures.stays.values
+
+pub returns-clause-marked : goal.returns-clause-marked
+returns-clause-marked c =
+    marked-grows c.args.p.now c.find.new.index.slots.items c.find.new.index.marks.items c.find.new.index.indexed c.look_all.new.front.values c.find.new.front.values c.in_ok-finding.ensures.index c.in_ok-finding.ensures.marked c.find.ensures.stays.values

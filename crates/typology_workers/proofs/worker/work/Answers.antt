@@ -1,13 +1,21 @@
 use Rattle.std.proofs.Common.{arith, length, inl, inr}
 use Rattle.typology_workers.proofs.Turning.{worked, got-turn, idle-turn, so-far-start}
+use Rattle.refutation.specs.Typologies.{certificates_of}
 use Rattle.typology_workers.proofs.Indexing.{index-none}
+use Rattle.typology_workers.proofs.Sifting.{marked-none}
 use Rattle.typology_workers.proofs.Staying.{seat-then, seat-same, front-same}
 use Rattle.typology_workers.proofs.worker.work.Goals as goal
 use Rattle.typology_workers.proofs.worker.work.Goals.{in-Some+in_ok-settle-in-Some, in-None}
 
 pub loop-turn-init : goal.loop-turn-init
 loop-turn-init g c = (
-  (index-none c.args.p.now c.in_ok-index.index.slots.items c.in_ok-index.index.indexed c.args.front.now.values c.in_ok-index.ensures.some c.in_ok-index.ensures.empty c.in_ok-index.ensures.none, c.in_ok-path.ensures),
+  (
+    (
+      index-none c.args.p.now c.in_ok-index.index.slots.items c.in_ok-index.index.indexed c.args.front.now.values c.in_ok-index.ensures.some c.in_ok-index.ensures.empty c.in_ok-index.ensures.none,
+      marked-none (certificates_of c.args.front.now.values) c.in_ok-index.index.slots.items c.in_ok-index.index.marks.items c.in_ok-index.ensures.long c.in_ok-index.ensures.empty c.in_ok-index.ensures.unmarked,
+    ),
+    c.in_ok-path.ensures,
+  ),
   record {
     so_far = so-far-start c.args.p.now (length c.args.store.now) c.args.seat.now c.args.front.now _ c.deques-deques.ensures.places c.new.ensures c.new-2.ensures c.new-3.ensures;
     rounds = λ v within. omega arith;
@@ -32,7 +40,7 @@ pub loop-turn-preserved : goal.loop-turn-preserved
 loop-turn-preserved g c =
     elim c.match-get.branch [
       | in-Some+in_ok-settle-in-Some w ↦ rw (w.seat-is, w.front-is, w.work-is, w.index-is, w.path-is, w.idle-is, w.taken-is) (
-        (w.in_ok-settle-in-Some.ensures.index, w.in_ok-settle-in-Some.ensures.path),
+        ((w.in_ok-settle-in-Some.ensures.index, w.in_ok-settle-in-Some.ensures.marked), w.in_ok-settle-in-Some.ensures.path),
         got-turn c.args.p.now (length c.args.store.now) w.in-Some.prefix c.args.seat.now c.loop-turn.seat c.get.new.seat w.settle.new.seat c.args.front.now c.loop-turn.front w.settle.new.front c.loop-turn.work w.settle.new.work c.loop-turn.idle c.loop-turn.taken c.loop-turn.turn
             c.loop-turn.invariant.1 c.loop-turn-test.true w.in-Some.ensures.stays w.in-Some.ensures.got w.settle.ensures.seat w.settle.ensures.front w.in_ok-settle-in-Some.ensures.settled,
       )
