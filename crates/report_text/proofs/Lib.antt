@@ -2,6 +2,8 @@ pub mod Genuine
 pub mod Grown
 pub mod Posed
 pub mod Spaced
+pub mod Led
+pub mod Marked
 pub mod Members
 pub mod WithBoth
 pub mod Numerals

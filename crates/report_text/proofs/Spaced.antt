@@ -1,16 +1,12 @@
 -- Lists with something between each two items, one more item at a time.
-use Rattle.std.proofs.Common.{◌≡◌, ℕ, zero, suc, ◌+◌, ◌<◌, List, [], ◌∷◌, ◌++◌, length, get_or, take, set, map, ◌*◌, Bool, true, false, cond, eqb, ◌==◌, slice_index, filter, decimal, flat_map, arith, refl, sym, ap, append_assoc}
+use Rattle.std.proofs.Common.{◌≡◌, ℕ, zero, suc, ◌+◌, ◌<◌, List, [], ◌∷◌, ◌++◌, length, get_or, take, map, Bool, true, false, cond, eqb, ◌==◌, slice_index, filter, decimal, flat_map, arith, refl, sym, ap, append_assoc}
 use Rattle.std.specs.List.{join_with_byte, join_by, range_with_len}
-use Rattle.std.proofs.lemmas.List.{map_push, map-id, append-nil, take_more, take_more_set, length-set}
-use Rattle.std.proofs.lemmas.List.Folds.{flat_map-map}
-use Rattle.std.proofs.lemmas.Fmt.{decimal_digit}
-use Rattle.ot_base.specs.declared.tableau.ClassId.{ClassId}
-use Rattle.refutation.specs.Prefixes.{class_numbers}
+use Rattle.std.proofs.lemmas.List.{map_push, map-id, append-nil, take_more}
 use Rattle.std.proofs.lemmas.List.FromFn.{map-range_with_len_more, filter_of_map_range_with_len_more}
 use Rattle.std.proofs.lemmas.Bool.{ne_eqb}
 use Rattle.std.proofs.lemmas.List.Concat.{flat_map-append}
 use Rattle.ot_theory.specs.Rankings.{numbers_below}
-use Rattle.report_text.specs.Spelling.{spaced, behind_spaces}
+use Rattle.report_text.specs.Spelling.{spaced}
 
 -- each item but the first has the byte before it
 pub join-cons : (c : ℕ) (x : List ℕ) (xs : List (List ℕ)) → join_with_byte c (x ∷ xs) ≡ x ++ flat_map (λ y. c ∷ y) xs
@@ -104,34 +100,3 @@ pub IsStratumBelow-out : (levels : List ℕ) (s c : ℕ) (first : Bool) (old new
 IsStratumBelow-out levels s c first old new other below =
     let same : stratum_below levels s (c + 1) ≡ stratum_below levels s c = rw (other, append-nil) at (stratum_below-push levels s c) in
     record { text = rw same below.text; none = rw same below.none }
-
--- the first class number, and each other one behind a space
-pub spaced-behind : (a : ℕ) (classes : List ℕ) → spaced (map (λ b. b + 1) (a ∷ classes)) ≡ decimal (a + 1) ++ behind_spaces classes
-spaced-behind a classes =
-    let above : ℕ → ℕ = λ b. b + 1 in
-    let behind : List ℕ → List ℕ = λ y. 32 ∷ y in
-    rw (join-cons 32 (decimal (a + 1)) (map decimal (map above classes)), flat_map-map behind decimal (map above classes), flat_map-map (λ n. 32 ∷ decimal n) above classes) refl
-
--- one number more
-pub behind-number : (classes : List ClassId) (k : ℕ) (d : ClassId) → k < length classes
-    → behind_spaces (class_numbers (take (k + 1) classes)) ≡ behind_spaces (class_numbers (take k classes)) ++ 32 ∷ decimal ((get_or classes k d).0 + 1)
-behind-number classes k d below =
-    rw (take_more classes k d below, map_push (λ (c : ClassId). c.0) (take k classes) (get_or classes k d), flat_map-append (λ a. 32 ∷ decimal (a + 1)) (class_numbers (take k classes)) ((get_or classes k d).0 ∷ []), append-nil (32 ∷ decimal ((get_or classes k d).0 + 1))) refl
-
--- the same, of one digit
-pub behind-digit : (classes : List ClassId) (k : ℕ) (d : ClassId) → k < length classes → (get_or classes k d).0 < 9
-    → behind_spaces (class_numbers (take (k + 1) classes)) ≡ behind_spaces (class_numbers (take k classes)) ++ 32 ∷ (49 + (get_or classes k d).0) ∷ []
-behind-digit classes k d below small =
-    let digit = decimal_digit ((get_or classes k d).0 + 1) (omega (arith, small)) in
-    rw (behind-number classes k d below, digit)
-    (ap (λ (n : ℕ). behind_spaces (class_numbers (take k classes)) ++ 32 ∷ n ∷ []) (omega arith))
-
--- two bytes written at the end of what is written
-pub take-two : (bytes : List ℕ) (k x y : ℕ) → 2 * k + 1 < length bytes → take (2 * (k + 1)) (set (set bytes (2 * k) x) (2 * k + 1) y) ≡ take (2 * k) bytes ++ x ∷ y ∷ []
-take-two bytes k x y within =
-    let second : take (2 * k + 1 + 1) (set (set bytes (2 * k) x) (2 * k + 1) y) ≡ take (2 * k + 1) (set bytes (2 * k) x) ++ y ∷ [] =
-    take_more_set (set bytes (2 * k) x) (2 * k + 1) y (rw length-set within)
-    in
-    let first : take (2 * k + 1) (set bytes (2 * k) x) ≡ take (2 * k) bytes ++ x ∷ [] = take_more_set bytes (2 * k) x (omega (arith, within)) in
-    let e : 2 * (k + 1) ≡ 2 * k + 1 + 1 = omega arith in
-    rw (e, second, first) (append_assoc (take (2 * k) bytes) (x ∷ []) (y ∷ []))

@@ -1,5 +1,5 @@
 -- How reports spell what they print.
-use Rattle.std.specs.Prelude.{ℕ, ◌+◌, List, [], ◌∷◌, ◌++◌, map, decimal, codes, max, fold, flat_map, Option, Some, None}
+use Rattle.std.specs.Prelude.{ℕ, ◌+◌, List, [], ◌∷◌, ◌++◌, ◌==◌, if◌then◌else◌, map, decimal, codes, max, fold, flat_map, Option, Some, None}
 use Rattle.std.specs.List.{join_with_byte, join_by, range_with_len}
 use Rattle.ot_theory.specs.declared.Mark.{Mark}
 use Rattle.ot_theory.specs.declared.Mark.TheVariants.{W, L, E}
@@ -31,9 +31,20 @@ abbrev pub prefix : List ℕ → List ℕ
 prefix [] = codes "-"
 prefix (a ∷ classes) = spaced (map (λ b. b + 1) (a ∷ classes))
 
--- class numbers, counted from 1, each behind a space
-abbrev pub behind_spaces : List ℕ → List ℕ
-behind_spaces classes = flat_map (λ a. 32 ∷ decimal (a + 1)) classes
+-- numbers, each behind a byte
+abbrev pub behind : ℕ → List ℕ → List ℕ
+behind byte numbers = flat_map (λ n. byte ∷ decimal n) numbers
+
+-- numbers, the first behind one byte and each other behind another
+abbrev pub led : ℕ → ℕ → List ℕ → List ℕ
+led first byte [] = []
+led first byte (n ∷ numbers) = first ∷ (decimal n ++ behind byte numbers)
+
+-- the violations of a class, each behind a tab, with a mark behind the first that differs from the winner's
+abbrev pub marked : List ℕ → List ℕ → List ℕ
+marked [] winning = []
+marked (n ∷ violations) [] = behind 9 (n ∷ violations)
+marked (n ∷ violations) (m ∷ winning) = 9 ∷ (decimal n ++ (if n == m then marked violations winning else codes "!" ++ behind 9 violations))
 
 -- an input and a class of it by their numbers, with a point between them
 abbrev pub output : ℕ → ℕ → List ℕ

@@ -6,6 +6,7 @@ ghost use Rattle.ot_base.specs.Tableaus.{input_of_rows, problem_of};
 ghost use Rattle.report_text.specs.Spelling.{line, spaced};
 ghost use Rattle.report_text.specs.Reports as reports;
 
+use crate::numbers::put_numbers;
 use crate::text::Text;
 use erc_vectors::NoMemory;
 use ot_base::{ClassId, InId, InputRows, Label, Tableau};
@@ -105,20 +106,20 @@ fn put_class(
 {
     text.put(b"class")?;
     text.output_field(i, a)?;
-    text.put(b"\t")?;
-    put_spaced(text, profile)?;
+    put_profile(text, profile)?;
     put_members(text, rows, members)?;
     text.end_line()
 }
 
-/// Numbers with a space between each two.
-fn put_spaced(text: &mut Text, numbers: &[u32]) -> Result<(), NoMemory>
-    ensures { OnOk result (text.new ≡ text.old ++ spaced numbers.now) }
+/// The violations of a profile with a space between each two, as a field.
+#[tactic(auto, using(crate::proofs::Led::led_spaced))]
+fn put_profile(text: &mut Text, violations: &[u32]) -> Result<(), NoMemory>
+    ensures { OnOk result (text.new ≡ text.old ++ 9 ∷ spaced violations.now) }
 {
-    for (k, number) in numbers.iter().enumerate() {
-        text.spaced_number(k == 0, *number as usize)?;
+    if violations.is_empty() {
+        return text.byte(b'\t');
     }
-    Ok(())
+    put_numbers(text, b'\t', b' ', violations)
 }
 
 /// The texts of the candidates at these positions, each as a field.

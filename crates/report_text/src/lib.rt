@@ -19,6 +19,7 @@ mod hasse;
 mod head;
 mod hierarchy;
 mod laws;
+mod numbers;
 mod rank;
 mod tableaux;
 mod terms;

@@ -1,17 +1,19 @@
 //! The tableau of each input that has a winner, with its columns in the order of a ranking.
 
-ghost use Rattle.std.specs.Prelude.{◌≡◌, ◌+◌, ◌<◌, ◌≤◌, ◌∷◌, [], ◌++◌, length, codes, decimal, flat_map, map, option_map, slice_get, OnOk, Some};
+ghost use Rattle.std.specs.Prelude.{◌≡◌, ◌+◌, ◌<◌, ◌≤◌, ◌∷◌, [], ◌++◌, ℕ, List, length, codes, decimal, flat_map, map, take, drop, slice_get, slice_index, IfNone, IfSome, OnOk, Some};
 ghost use Rattle.std.specs.Option.{option_map_or};
 ghost use Rattle.std.specs.List.{enumerate_from};
 ghost use Rattle.ot_theory.specs.Problems.{Input};
 ghost use Rattle.ot_theory.specs.Languages.{classes_at, profile_at};
 ghost use Rattle.ot_base.specs.Tableaus.{problem_of};
 ghost use Rattle.ot_base.specs.declared.limits.TheConstants.{INPUT_LIMIT, CANDIDATE_LIMIT};
-ghost use Rattle.report_text.specs.Spelling.{line};
+ghost use Rattle.ot_theory.specs.Rankings.{IsRanking};
+ghost use Rattle.report_text.specs.Spelling.{behind, line, marked};
 ghost use Rattle.report_text.specs.Reports as reports;
 
+use crate::numbers::put_numbers;
 use crate::text::Text;
-use erc_vectors::{ConId, NoMemory, Order};
+use erc_vectors::{LIMIT, NoMemory, Order};
 use ot_base::{ClassId, InId, InputRows, Tableau};
 use violation_profiles::Problem;
 
@@ -25,6 +27,7 @@ pub(crate) fn put_tableaux(
     requires poses { problem.now ≡ problem_of tableau.now }
     requires few { length tableau.now.inputs ≤ INPUT_LIMIT }
     requires width { length order.now ≡ problem.now.constraints }
+    requires ranking { IsRanking (length order.now) order.now }
     ensures { OnOk result (text.new ≡ text.old ++ reports.tableaux order.now tableau.now problem.now) }
 {
     for (i, rows) in tableau.inputs.as_slice().iter().enumerate() {
@@ -43,6 +46,7 @@ fn put_tableau(
 ) -> Result<(), NoMemory>
     requires within { i.0 < length problem.now.inputs }
     requires width { length order.now ≡ problem.now.constraints }
+    requires ranking { IsRanking (length order.now) order.now }
     ensures { OnOk result ((input : Input) → slice_get problem.now.inputs i.0 ≡ Some input
         → text.new ≡ text.old ++ option_map_or (reports.tableau_lines order.now (i.0 + 1) rows.now input.classes) input.winner []) }
 {
@@ -64,6 +68,7 @@ fn put_tableau_of(
     requires within { i.0 < length problem.now.inputs }
     requires class { winner.0 < length (classes_at problem.now i.0) }
     requires width { length order.now ≡ problem.now.constraints }
+    requires ranking { IsRanking (length order.now) order.now }
     ensures { OnOk result (text.new ≡ text.old ++ reports.tableau_lines order.now (i.0 + 1) rows.now (classes_at problem.now i.0) winner.0) }
 {
     text.put(b"tableau")?;
@@ -96,18 +101,32 @@ fn put_rows(
     requires within { i.0 < length problem.now.inputs }
     requires class { winner.0 < length (classes_at problem.now i.0) }
     requires width { length order.now ≡ problem.now.constraints }
+    requires ranking { IsRanking (length order.now) order.now }
     ensures { OnOk result (text.new ≡ text.old
         ++ flat_map (λ (a, profile). reports.row_line order.now winner.0 (profile_at problem.now i.0 winner.0) a profile) (enumerate_from 0 (classes_at problem.now i.0))) }
 {
-    let winning = problem.profile(i, winner);
+    let winning = in_order(order, problem.profile(i, winner));
     for a in 0..problem.classes(i) {
         let profile = problem.profile(i, ClassId(a as u16));
-        put_row(text, order, winner, winning, a, profile)?;
+        put_row(text, order, winner, &winning[..order.width()], a, profile)?;
     }
     Ok(())
 }
 
-/// The row of a class: its number, whether it is the winner, and its violations.
+/// The violations of a profile in the order of a ranking.
+fn in_order(order: &Order, profile: &[u32]) -> [u32; LIMIT]
+    requires { length profile.now ≡ length order.now }
+    ensures { take (length order.now) result ≡ map (slice_index profile.now) order.now }
+{
+    let mut violations = [0; LIMIT];
+    for k in 0..order.width() {
+        violations[k] = profile[order.at(k).0 as usize];
+    }
+    violations
+}
+
+/// The row of a class: its number, whether it is the winner, and its violations in the order of the ranking. Those of the winner
+/// stand in that order already.
 fn put_row(
     text: &mut Text,
     order: &Order,
@@ -118,13 +137,16 @@ fn put_row(
 ) -> Result<(), NoMemory>
     requires winning { length winning.now ≡ length order.now }
     requires profile { length profile.now ≡ length order.now }
+    requires ranking { IsRanking (length order.now) order.now }
     requires small { a < CANDIDATE_LIMIT }
-    ensures { OnOk result (text.new ≡ text.old ++ reports.row_line order.now winner.0 winning.now a profile.now) }
+    ensures { OnOk result ((w : List ℕ) → winning.now ≡ map (slice_index w) order.now
+        → text.new ≡ text.old ++ reports.row_line order.now winner.0 w a profile.now) }
 {
+    let violations = in_order(order, profile);
     text.put(b"row")?;
     text.number_field(a + 1)?;
     text.field(sign(a == winner.0 as usize))?;
-    put_violations(text, order, fatal(order, winning, profile), profile)?;
+    put_violations(text, winning, &violations[..order.width()])?;
     text.end_line()
 }
 
@@ -135,38 +157,32 @@ fn sign(wins: bool) -> &'static [u8]
     if wins { b">" } else { b"-" }
 }
 
-/// The first constraint of the order on which a profile differs from the winner's.
-fn fatal(order: &Order, winning: &[u32], profile: &[u32]) -> Option<ConId>
-    requires winning { length winning.now ≡ length order.now }
-    requires profile { length profile.now ≡ length order.now }
-    ensures { option_map (λ c. c.0) result ≡ reports.fatal order.now winning.now profile.now }
+/// The violations of a class, each as a field, with a mark behind the fatal one.
+#[tactic(auto, using(crate::proofs::Marked::put_marked, crate::proofs::Marked::put_unmarked))]
+fn put_violations(text: &mut Text, winning: &[u32], violations: &[u32]) -> Result<(), NoMemory>
+    requires { length violations.now ≡ length winning.now }
+    ensures { OnOk result (text.new ≡ text.old ++ marked violations.now winning.now) }
 {
-    for k in 0..order.width() {
-        let c = order.at(k);
-        if profile[c.0 as usize] != winning[c.0 as usize] {
-            return Some(c);
+    let Some(k) = fatal(winning, violations) else {
+        return put_numbers(text, b'\t', b'\t', violations);
+    };
+    let (upto, behind) = violations.split_at(k + 1);
+    put_numbers(text, b'\t', b'\t', upto)?;
+    text.put(b"!")?;
+    put_numbers(text, b'\t', b'\t', behind)
+}
+
+/// The first place at which the violations differ from the winner's.
+fn fatal(winning: &[u32], violations: &[u32]) -> Option<usize>
+    requires { length violations.now ≡ length winning.now }
+    ensures some { IfSome result (λ k. k < length violations.now × marked violations.now winning.now
+        ≡ behind 9 (take (k + 1) violations.now) ++ codes "!" ++ behind 9 (drop (k + 1) violations.now)) }
+    ensures none { IfNone result (marked violations.now winning.now ≡ behind 9 violations.now) }
+{
+    for k in 0..violations.len() {
+        if violations[k] != winning[k] {
+            return Some(k);
         }
     }
     None
-}
-
-/// The violations in the order of the ranking, each as a field, with a mark behind the fatal one.
-fn put_violations(
-    text: &mut Text,
-    order: &Order,
-    fatal: Option<ConId>,
-    profile: &[u32],
-) -> Result<(), NoMemory>
-    requires { length profile.now ≡ length order.now }
-    ensures { OnOk result (text.new ≡ text.old
-        ++ flat_map (λ field. 9 ∷ field) (map (reports.violation profile.now (option_map (λ c. c.0) fatal)) order.now)) }
-{
-    for k in 0..order.width() {
-        let constraint = order.at(k);
-        text.number_field(profile[constraint.0 as usize] as usize)?;
-        if fatal == Some(constraint) {
-            text.put(b"!")?;
-        }
-    }
-    Ok(())
 }

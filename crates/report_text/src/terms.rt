@@ -1,13 +1,13 @@
 //! Terms, and the fusion of their conditions.
 
-ghost use Rattle.std.specs.Prelude.{◌≡◌, ◌∷◌, [], ◌++◌, ◌<◌, length, map, IsTrue, OnOk};
+ghost use Rattle.std.specs.Prelude.{◌≡◌, ◌∷◌, ◌++◌, ◌<◌, length, map, take, IsTrue, OnOk};
 ghost use Rattle.ot_theory.specs.Conditions.{fusion};
 ghost use Rattle.ot_theory.specs.Languages.{condition_of};
 ghost use Rattle.refutation.specs.Terms.{are_terms, terms_in, term_of};
 ghost use Rattle.report_text.specs.Spelling as spelling;
 
 use crate::text::Text;
-use erc_vectors::{ConId, Condition, Mark, NoMemory};
+use erc_vectors::{ConId, Condition, LIMIT, Mark, NoMemory};
 use refutation::{Term, fusion_of};
 use violation_profiles::Problem;
 
@@ -31,19 +31,27 @@ pub(crate) fn put_fused_terms(text: &mut Text, p: &Problem, terms: &[Term]) -> R
 pub(crate) fn put_marks(text: &mut Text, condition: &Condition) -> Result<(), NoMemory>
     ensures { OnOk result (text.new ≡ text.old ++ spelling.marks condition.now) }
 {
-    for c in 0..condition.width() {
-        text.put(letter(condition.mark(ConId(c as u16))))?;
-    }
-    Ok(())
+    let letters = letters_of(condition);
+    text.put(&letters[..condition.width()])
 }
 
-fn letter(mark: Mark) -> &'static [u8]
-    ensures { result.now ≡ spelling.letter mark ∷ [] }
+fn letters_of(condition: &Condition) -> [u8; LIMIT]
+    ensures { take (length condition.now) result ≡ spelling.marks condition.now }
+{
+    let mut letters = [0; LIMIT];
+    for c in 0..condition.width() {
+        letters[c] = letter(condition.mark(ConId(c as u16)));
+    }
+    letters
+}
+
+fn letter(mark: Mark) -> u8
+    ensures { result ≡ spelling.letter mark }
 {
     match mark {
-        Mark::W => b"W",
-        Mark::L => b"L",
-        Mark::E => b"e",
+        Mark::W => b'W',
+        Mark::L => b'L',
+        Mark::E => b'e',
     }
 }
 
@@ -63,8 +71,6 @@ pub(crate) fn put_term(text: &mut Text, term: &Term) -> Result<(), NoMemory>
     ensures { OnOk result (text.new ≡ text.old ++ spelling.term (term_of term.now)) }
 {
     text.number(term.input.0 as usize + 1)?;
-    text.put(b":")?;
-    text.number(term.winner.0 as usize + 1)?;
-    text.put(b">")?;
-    text.number(term.loser.0 as usize + 1)
+    text.byte_and_number(b':', term.winner.0 as usize + 1)?;
+    text.byte_and_number(b'>', term.loser.0 as usize + 1)
 }

@@ -50,7 +50,7 @@ impl Text {
     }
 
     /// One byte.
-    fn byte(&mut self, byte: u8) -> Result<(), NoMemory>
+    pub(crate) fn byte(&mut self, byte: u8) -> Result<(), NoMemory>
         ensures { OnOk result (self.new ≡ self.old ++ byte ∷ []) }
     {
         self.bytes.push(byte)?;
@@ -78,7 +78,7 @@ impl Text {
     }
 
     /// A byte and a number in decimal. Most numbers have one digit, which is put together with the byte.
-    fn byte_and_number(&mut self, byte: u8, n: usize) -> Result<(), NoMemory>
+    pub(crate) fn byte_and_number(&mut self, byte: u8, n: usize) -> Result<(), NoMemory>
         ensures { OnOk result (self.new ≡ self.old ++ byte ∷ decimal n) }
     {
         if n < 10 {
@@ -110,7 +110,7 @@ impl Text {
     pub(crate) fn field(&mut self, bytes: &[u8]) -> Result<(), NoMemory>
         ensures { OnOk result (self.new ≡ self.old ++ 9 ∷ bytes.now) }
     {
-        self.put(b"\t")?;
+        self.byte(b'\t')?;
         self.put(bytes)
     }
 
@@ -126,8 +126,7 @@ impl Text {
         ensures { OnOk result (self.new ≡ self.old ++ 9 ∷ output i a) }
     {
         self.number_field(i)?;
-        self.put(b".")?;
-        self.number(a)
+        self.byte_and_number(b'.', a)
     }
 
     /// A line with a word and a number.
@@ -143,6 +142,6 @@ impl Text {
     pub(crate) fn end_line(&mut self) -> Result<(), NoMemory>
         ensures { OnOk result (self.new ≡ self.old ++ 10 ∷ []) }
     {
-        self.put(b"\n")
+        self.byte(b'\n')
     }
 }

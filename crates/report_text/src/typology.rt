@@ -1,16 +1,17 @@
 //! The report of a factorial typology: its languages, and what shows that the other choices are none.
 
-ghost use Rattle.std.specs.Prelude.{◌≡◌, ◌∷◌, ◌++◌, ◌*◌, ◌<◌, ◌≤◌, length, take, true, All, IsTrue, IfOk, OnOk};
+ghost use Rattle.std.specs.Prelude.{◌≡◌, ◌+◌, ◌∷◌, ◌++◌, ◌<◌, ◌≤◌, length, map, take, All, IsTrue, IfOk, OnOk};
 ghost use Rattle.ot_base.specs.Tableaus.{problem_of};
 ghost use Rattle.refutation.specs.Prefixes.{class_numbers};
 ghost use Rattle.refutation.specs.Terms.{are_terms, terms_in};
 ghost use Rattle.refutation.specs.Typologies.{found_of, cuts_of, certificates_of};
-ghost use Rattle.report_text.specs.Spelling.{behind_spaces, prefix};
-ghost use Rattle.report_text.specs.declared.typology.TheConstants.{FEW};
+ghost use Rattle.report_text.specs.Spelling.{prefix};
+ghost use Rattle.report_text.specs.declared.numbers.TheConstants.{FEW};
 ghost use Rattle.report_text.specs.Reports as reports;
 
 use crate::head::put_head;
 use crate::hierarchy::put_hierarchy;
+use crate::numbers::{FEW, put_few};
 use crate::terms::put_fused_terms;
 use crate::text::Text;
 use erc_vectors::{NoMemory, Strata};
@@ -135,62 +136,32 @@ fn put_cut(text: &mut Text, number: usize, certificates: usize, cut: &Cut) -> Re
 }
 
 /// The numbers of the classes, by input, as a field, and a dash where there are none.
+#[tactic(auto, using(crate::proofs::Led::put_classes, crate::proofs::Led::classes_put))]
 fn put_prefix(text: &mut Text, classes: &[ClassId]) -> Result<(), NoMemory>
     ensures { OnOk result (text.new ≡ text.old ++ 9 ∷ prefix (class_numbers classes.now)) }
 {
-    let Some((first, rest)) = classes.split_first() else {
+    if classes.is_empty() {
         return text.field(b"-");
-    };
-    text.number_field(first.0 as usize + 1)?;
-    let mut rest = rest;
+    }
+    let mut before = b'\t';
+    let mut rest = classes;
     while !rest.is_empty() {
         let (few, more) = rest.split_at(rest.len().min(FEW));
-        put_few(text, few)?;
+        put_few(text, before, b' ', &numbers_of(few)[..few.len()])?;
+        before = b' ';
         rest = more;
     }
     Ok(())
 }
 
-/// How many numbers are written at once.
-const FEW: usize = 32;
-
-/// The numbers of a few classes, each behind a space. A prefix of hundreds of inputs is mostly numbers of one digit, which are
-/// put together and written at once.
-fn put_few(text: &mut Text, few: &[ClassId]) -> Result<(), NoMemory>
+/// The numbers of a few classes, counted from 1.
+fn numbers_of(few: &[ClassId]) -> [u32; FEW]
     requires { length few.now ≤ FEW }
-    ensures { OnOk result (text.new ≡ text.old ++ behind_spaces (class_numbers few.now)) }
+    ensures { take (length few.now) result ≡ map (λ a. a + 1) (class_numbers few.now) }
 {
-    if are_digits(few) {
-        let bytes = digits_behind_spaces(few);
-        return text.put(&bytes[..2 * few.len()]);
-    }
-    for class in few {
-        text.spaced_number(false, class.0 as usize + 1)?;
-    }
-    Ok(())
-}
-
-/// Whether the numbers of all of these classes have one digit. The greatest is found by a walk to the end, many at a time.
-fn are_digits(few: &[ClassId]) -> bool
-    ensures { result ≡ true → All (λ class. class.0 < 9) few.now }
-{
-    let mut greatest = 0;
-    for class in few {
-        greatest = class.0.max(greatest);
-    }
-    greatest < 9
-}
-
-/// The numbers of a few classes, each of one digit behind a space.
-fn digits_behind_spaces(few: &[ClassId]) -> [u8; 2 * FEW]
-    requires few { length few.now ≤ FEW }
-    requires digits { All (λ class. class.0 < 9) few.now }
-    ensures { take (2 * length few.now) result ≡ behind_spaces (class_numbers few.now) }
-{
-    let mut bytes = [0; 2 * FEW];
+    let mut numbers = [0; FEW];
     for (k, class) in few.iter().enumerate() {
-        bytes[2 * k] = b' ';
-        bytes[2 * k + 1] = b'1' + class.0 as u8;
+        numbers[k] = class.0 as u32 + 1;
     }
-    bytes
+    numbers
 }

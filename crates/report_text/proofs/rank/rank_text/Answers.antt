@@ -3,6 +3,9 @@ use Rattle.report_text.specs.Reports.{rank_report, tableaux}
 use Rattle.ot_theory.specs.Hierarchies.{order_along}
 use Rattle.report_text.proofs.rank.rank_text.Goals as goal
 
+pub put_tableaux-requires-clause-ranking : goal.put_tableaux-requires-clause-ranking
+put_tableaux-requires-clause-ranking c = rw c.order_of.ensures.width c.order_of.ensures.ranking
+
 pub returns : goal.returns
 unfolding rank_report
 returns c =

@@ -1,7 +1,7 @@
--- what is left of the order decides as the whole does
-use Rattle.std.proofs.Common.{◌≡◌, drop}
-use Rattle.report_text.specs.Reports as reports
+-- the violations at the first k places do not differ
+use Rattle.std.proofs.Common.{◌≡◌, ◌++◌, take, drop}
+use Rattle.report_text.specs.Spelling.{behind, marked}
 use Rattle.report_text.proofs.tableaux.fatal.Given as goal
 
 abbrev pub invariant-loop-k : goal.invariant-loop-k
-invariant-loop-k l = reports.fatal (drop l.k l.order) l.winning l.profile ≡ reports.fatal l.order l.winning l.profile
+invariant-loop-k l = marked l.violations l.winning ≡ behind 9 (take l.k l.violations) ++ marked (drop l.k l.violations) (drop l.k l.winning)
