@@ -9,7 +9,6 @@ use Rattle.ot_base.specs.declared.tableau.ClassId.{ClassId}
 use Rattle.refutation.specs.Prefixes.{class_numbers}
 use Rattle.report_text.specs.Spelling.{spaced, behind, led, prefix}
 use Rattle.report_text.proofs.Spaced.{join-cons}
-use Rattle.report_text.proofs.Grown.{fields}
 
 abbrev one : ℕ → ℕ → List ℕ
 one byte n = byte ∷ decimal n
@@ -67,10 +66,6 @@ take-two bytes k x y within =
 pub led_spaced : (xs : List ℕ) → 0 < length xs → led 9 32 xs ≡ 9 ∷ spaced xs
 led_spaced [] some = absurd (omega (arith, some))
 led_spaced (x ∷ xs) some = rw (join-cons 32 (decimal x) (map decimal xs), flat_map-map (λ (y : List ℕ). 32 ∷ y) decimal xs) refl
-
--- as fields
-pub fields-behind : (f : ℕ → ℕ) (xs : List ℕ) → fields (λ x. decimal (f x)) xs ≡ behind 9 (map f xs)
-fields-behind f xs = rw (flat_map-map (λ (y : List ℕ). 9 ∷ y) (λ x. decimal (f x)) xs, flat_map-map (one 9) f xs) refl
 
 -- some of those that are left are written, and the others are left
 pub put_some : (text new whole few more rest : List ℕ) (before byte : ℕ) → rest ≡ few ++ more → 0 < length few → new ≡ text ++ led before byte few → text ++ led before byte rest ≡ whole → new ++ led byte byte more ≡ whole

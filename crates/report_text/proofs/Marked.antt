@@ -115,31 +115,31 @@ pub marked-fields : (n : ℕ) (order winning profile : List ℕ) → IsRanking n
 marked-fields n order winning profile ranking = marked-once order winning profile (once n order ranking)
 
 -- up to the first k places, which do not differ
-pub marked-same : (violations winning : List ℕ) (k : ℕ) → k < length violations → k < length winning → get_or violations k 0 ≡ get_or winning k 0
+pub marked_same : (violations winning : List ℕ) (k : ℕ) → k < length violations → k < length winning → get_or violations k 0 ≡ get_or winning k 0
     → marked (drop k violations) (drop k winning) ≡ 9 ∷ (decimal (get_or violations k 0) ++ marked (drop (k + 1) violations) (drop (k + 1) winning))
-marked-same [] winning k below within same = absurd (omega (arith, below))
-marked-same (n ∷ violations) [] k below within same = absurd (omega (arith, within))
-marked-same (n ∷ violations) (m ∷ winning) zero below within same = rw (eq-eqb n m same) refl
-marked-same (n ∷ violations) (m ∷ winning) (suc k) below within same =
+marked_same [] winning k below within same = absurd (omega (arith, below))
+marked_same (n ∷ violations) [] k below within same = absurd (omega (arith, within))
+marked_same (n ∷ violations) (m ∷ winning) zero below within same = rw (eq-eqb n m same) refl
+marked_same (n ∷ violations) (m ∷ winning) (suc k) below within same =
     let next : suc (k + 1) ≡ suc k + 1 = omega arith in
     subst (λ (p : ℕ). marked (drop k violations) (drop k winning) ≡ 9 ∷ (decimal (get_or violations k 0) ++ marked (drop p (n ∷ violations)) (drop p (m ∷ winning)))) next
-    (marked-same violations winning k (omega (arith, below)) (omega (arith, within)) same)
+    (marked_same violations winning k (omega (arith, below)) (omega (arith, within)) same)
 
 -- and at the place after them, which differs
-pub marked-differs : (violations winning : List ℕ) (k : ℕ) → k < length violations → k < length winning → get_or violations k 0 ≢ get_or winning k 0
+pub marked_differs : (violations winning : List ℕ) (k : ℕ) → k < length violations → k < length winning → get_or violations k 0 ≢ get_or winning k 0
     → marked (drop k violations) (drop k winning) ≡ 9 ∷ (decimal (get_or violations k 0) ++ codes "!" ++ behind 9 (drop (k + 1) violations))
-marked-differs [] winning k below within differs = absurd (omega (arith, below))
-marked-differs (n ∷ violations) [] k below within differs = absurd (omega (arith, within))
-marked-differs (n ∷ violations) (m ∷ winning) zero below within differs =
+marked_differs [] winning k below within differs = absurd (omega (arith, below))
+marked_differs (n ∷ violations) [] k below within differs = absurd (omega (arith, within))
+marked_differs (n ∷ violations) (m ∷ winning) zero below within differs =
     ap (λ (same : Bool). 9 ∷ (decimal n ++ (if same then marked violations winning else codes "!" ++ behind 9 violations))) (ne_eqb n m differs)
     ∙ ap (λ (l : List ℕ). 9 ∷ l) (sym (append_assoc (decimal n) (codes "!") (behind 9 violations)))
-marked-differs (n ∷ violations) (m ∷ winning) (suc k) below within differs =
+marked_differs (n ∷ violations) (m ∷ winning) (suc k) below within differs =
     let next : suc (k + 1) ≡ suc k + 1 = omega arith in
     subst (λ (p : ℕ). marked (drop k violations) (drop k winning) ≡ 9 ∷ (decimal (get_or violations k 0) ++ codes "!" ++ behind 9 (drop p (n ∷ violations)))) next
-    (marked-differs violations winning k (omega (arith, below)) (omega (arith, within)) differs)
+    (marked_differs violations winning k (omega (arith, below)) (omega (arith, within)) differs)
 
-pub marked-past : (violations winning : List ℕ) (k : ℕ) → length violations ≤ k → marked (drop k violations) (drop k winning) ≡ []
-marked-past violations winning k past = rw (drop_all k violations past) refl
+pub marked_past : (violations winning : List ℕ) (k : ℕ) → length violations ≤ k → marked (drop k violations) (drop k winning) ≡ []
+marked_past violations winning k past = rw (drop_all k violations past) refl
 
 -- the row of a class, by the violations in the order of the ranking
 pub row_marked : (order winner profile winning violations : List ℕ) → IsRanking (length order) order → winning ≡ map (slice_index winner) order → violations ≡ map (slice_index profile) order

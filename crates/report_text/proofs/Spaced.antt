@@ -39,9 +39,6 @@ pub joined_more : {X : Type 0} (c : ℕ) (f : X → List ℕ) (xs : List X) (k :
 joined_more c f xs k d below =
     rw (take_more xs k d below, joined-push c f (take k xs) (get_or xs k d), first_at xs k below) refl
 
-pub spaced_more : (numbers : List ℕ) (k : ℕ) → k < length numbers → spaced (take (k + 1) numbers) ≡ spaced (take k numbers) ++ (cond (eqb k 0) [] (32 ∷ []) ++ decimal (get_or numbers k 0))
-spaced_more numbers k below = joined_more 32 decimal numbers k 0 below
-
 join_by-push : {X : Type 0} (f : X → List ℕ) (separator : List ℕ) (xs : List X) (x : X) → join_by f separator (xs ++ x ∷ []) ≡ join_by f separator xs ++ (cond (is_first xs) [] separator ++ f x)
 join_by-push f separator [] x = append-nil (f x)
 join_by-push f separator (y ∷ xs) x =

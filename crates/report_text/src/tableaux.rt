@@ -173,6 +173,7 @@ fn put_violations(text: &mut Text, winning: &[u32], violations: &[u32]) -> Resul
 }
 
 /// The first place at which the violations differ from the winner's.
+#[tactic(auto, using(crate::proofs::Marked::marked_same, crate::proofs::Marked::marked_differs, crate::proofs::Marked::marked_past))]
 fn fatal(winning: &[u32], violations: &[u32]) -> Option<usize>
     requires { length violations.now ≡ length winning.now }
     ensures some { IfSome result (λ k. k < length violations.now × marked violations.now winning.now

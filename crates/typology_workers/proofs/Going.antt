@@ -26,8 +26,8 @@ use Rattle.typology_workers.specs.declared.path.Path.{Path}
 use Rattle.typology_workers.specs.declared.path.Step.{Step}
 
 -- the empty prefix
-pub path-none : (problem : Problem) (path : Path) → path.steps.items ≡ [] → path.asked.terms.items ≡ [] → path.asked.conditions.items ≡ [] → AreMade problem path.ready → IsPathOf problem path
-path-none problem path none terms conditions made = record {
+pub path_none : (problem : Problem) (path : Path) → path.steps.items ≡ [] → path.asked.terms.items ≡ [] → path.asked.conditions.items ≡ [] → AreMade problem path.ready → IsPathOf problem path
+path_none problem path none terms conditions made = record {
   asked = rw (none, terms, conditions) (asked-nothing problem);
   before = λ k lt. absurd (omega (arith, ap (λ (l : List Step). length l) none));
   within = λ k lt. absurd (omega (arith, ap (λ (l : List Step). length l) none));
@@ -141,8 +141,8 @@ front-more steps classes k d e on within same h =
     take_more_same (map (λ (step : Step). step.class.0) steps) (class_numbers classes) k 0 (omega (arith, length-map steps (λ (step : Step). step.class.0))) (omega (arith, length-map classes (λ (class : ClassId). class.0))) h
     (get_or-map (λ (step : Step). step.class.0) steps k d 0 on ∙ same ∙ sym (get_or-map (λ (class : ClassId). class.0) classes k e 0 within))
 
-pub there-more : (classes : List ClassId) (k : ℕ) (d : ClassId) (old new : List ℕ) (class : ClassId) → k < length classes → class ≡ get_or classes k d → old ≡ take k (class_numbers classes) → new ≡ old ++ class.0 ∷ [] → new ≡ take (k + 1) (class_numbers classes)
-there-more classes k d old new class within here h e =
+pub there_more : (classes : List ClassId) (k : ℕ) (d : ClassId) (old new : List ℕ) (class : ClassId) → k < length classes → class ≡ get_or classes k d → old ≡ take k (class_numbers classes) → new ≡ old ++ class.0 ∷ [] → new ≡ take (k + 1) (class_numbers classes)
+there_more classes k d old new class within here h e =
     e ∙ ap (λ (l : List ℕ). l ++ class.0 ∷ []) h ∙ ap (λ (a : ℕ). take k (class_numbers classes) ++ a ∷ []) (ap (λ (c : ClassId). c.0) here ∙ sym (get_or-map (λ (c : ClassId). c.0) classes k d 0 within))
     ∙ sym (take_more (class_numbers classes) k 0 (omega (arith, length-map classes (λ (c : ClassId). c.0))))
 
@@ -151,17 +151,17 @@ pub on-path : (path : Path) (classes : List ClassId) (k : ℕ) → prefix_of pat
 on-path path classes k h within =
     sym (length-map path.steps.items (λ (step : Step). step.class.0)) ∙ ap (λ (l : List ℕ). length l) h ∙ length-take-le k (class_numbers classes) (omega (arith, length-map classes (λ (c : ClassId). c.0)))
 
-pub shorter-path : (problem : Problem) (path : Path) (classes : List ClassId) (k : ℕ) → IsPrefix problem (class_numbers classes) → prefix_of path ≡ take k (class_numbers classes) → k < length classes → length path.steps.items < length problem.inputs
-shorter-path problem path classes k p h within = omega (arith, p.short, length-map classes (λ (c : ClassId). c.0), on-path path classes k h (omega arith))
+pub shorter_path : (problem : Problem) (path : Path) (classes : List ClassId) (k : ℕ) → IsPrefix problem (class_numbers classes) → prefix_of path ≡ take k (class_numbers classes) → k < length classes → length path.steps.items < length problem.inputs
+shorter_path problem path classes k p h within = omega (arith, p.short, length-map classes (λ (c : ClassId). c.0), on-path path classes k h (omega arith))
 
-pub next-class : (problem : Problem) (path : Path) (classes : List ClassId) (k : ℕ) (d class : ClassId) → IsPrefix problem (class_numbers classes) → prefix_of path ≡ take k (class_numbers classes) → k < length classes → class ≡ get_or classes k d
+pub next_class : (problem : Problem) (path : Path) (classes : List ClassId) (k : ℕ) (d class : ClassId) → IsPrefix problem (class_numbers classes) → prefix_of path ≡ take k (class_numbers classes) → k < length classes → class ≡ get_or classes k d
     → class.0 < length (classes_at problem (length path.steps.items))
-next-class problem path classes k d class p h within here =
+next_class problem path classes k d class p h within here =
     let it : slice_index (class_numbers classes) k < length (classes_at problem k) = p.within k (omega (arith, length-map classes (λ (c : ClassId). c.0))) in
     rw (on-path path classes k h (omega arith), here, ← get_or-map (λ (c : ClassId). c.0) classes k d 0 within) it
 
-pub all-there : (path : Path) (classes : List ClassId) (k : ℕ) → prefix_of path ≡ take k (class_numbers classes) → length classes ≤ k → prefix_of path ≡ class_numbers classes
-all-there path classes k h all = h ∙ take_all k (class_numbers classes) (omega (arith, length-map classes (λ (c : ClassId). c.0)))
+pub all_there : (path : Path) (classes : List ClassId) (k : ℕ) → prefix_of path ≡ take k (class_numbers classes) → length classes ≤ k → prefix_of path ≡ class_numbers classes
+all_there path classes k h all = h ∙ take_all k (class_numbers classes) (omega (arith, length-map classes (λ (c : ClassId). c.0)))
 
 -- ---- what the path asks decides what is found of its prefix
 pub held-here : (problem : Problem) (path : Path) (n : ℕ) (set : List (List Mark)) (levels : List ℕ) → IsWellFormed problem → IsPrefix problem (prefix_of path) → IsPathOf problem path → n ≡ problem.constraints → set ≡ path.asked.conditions.items

@@ -74,5 +74,5 @@ marked-grows problem slots marks n old new h m b = record {
 }
 
 -- what refutes the prefix has no bits but its own
-pub sieved : (values : List Contradiction) (prefix places marks : List ℕ) (bits k : ℕ) → IsSieve (certificates_of values) prefix places marks bits → k < length places → RefutesAt values prefix (slice_index places k) → bit_or (slice_index marks k) bits ≡ bits
-sieved values prefix places marks bits k s below h = s.passed k below (rw (certificate-at values (slice_index places k) h.0 h.1) h.2)
+pub passes_sieve : (values : List Contradiction) (prefix places marks : List ℕ) (bits k : ℕ) → IsSieve (certificates_of values) prefix places marks bits → k < length places → RefutesAt values prefix (slice_index places k) → bit_or (slice_index marks k) bits ≡ bits
+passes_sieve values prefix places marks bits k s below h = s.passed k below (rw (certificate-at values (slice_index places k) h.0 h.1) h.2)

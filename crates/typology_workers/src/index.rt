@@ -137,6 +137,7 @@ fn slot_of(slots: usize, input: InId, class: ClassId) -> usize
 
 /// The first of `best` and of those of these places whose value refutes the prefix, whose choices have these bits. Beside each place
 /// stand the bits that its value asks for.
+#[tactic(auto, using(crate::proofs::Sifting::passes_sieve))]
 fn nearest(
     store: &Store,
     front: &Front,

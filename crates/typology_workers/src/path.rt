@@ -41,6 +41,7 @@ pub(crate) struct Path {
 
 impl Path {
     /// The empty prefix.
+    #[tactic(auto, using(crate::proofs::Going::path_none))]
     pub(crate) fn start(alloc: Global, p: &Problem) -> Result<Path, NoMemory>
         ensures { IfOk result (IsPathOf p.now) }
     {
@@ -69,6 +70,7 @@ impl Path {
     }
 
     /// Goes to a prefix of the problem.
+    #[tactic(auto, using(crate::proofs::Going::there_more, crate::proofs::Going::shorter_path, crate::proofs::Going::next_class, crate::proofs::Going::all_there))]
     fn go_to(&mut self, alloc: Global, p: &Problem, prefix: &[ClassId]) -> Result<(), NoMemory>
         requires prefix { IsPrefix p.now (class_numbers prefix.now) }
         requires path { IsPathOf p.now self.old }
