@@ -1,3 +1,4 @@
+mod BitPlanes
 pub mod Acceptable
 pub mod Inputs
 pub mod Found

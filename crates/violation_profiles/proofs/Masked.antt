@@ -23,7 +23,7 @@ length-condition [] b e = refl
 length-condition (x ∷ a) [] e = absurd (omega arith)
 length-condition (x ∷ a) (y ∷ b) e = let rest = length-condition a b (omega arith) in omega arith
 
-is_loss-mark_of : (x y : ℕ) → is_loss (mark_of x y) ≡ nat_lt y x
+pub is_loss-mark_of : (x y : ℕ) → is_loss (mark_of x y) ≡ nat_lt y x
 is_loss-mark_of x y = by (nat_lt x y) (nat_lt y x) refl refl
   where
     by : (b d : Bool) → nat_lt x y ≡ b → nat_lt y x ≡ d → is_loss (cond b W (cond d L E)) ≡ d

@@ -1,3 +1,4 @@
 pub mod WellFormed
 pub mod Classes
 pub mod Laws
+pub mod Planes

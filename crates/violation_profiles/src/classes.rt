@@ -1,37 +1,62 @@
 //! The classes of one input's candidates: each distinct profile, in order of first candidate, and its members.
 
-ghost use Rattle.std.specs.Prelude.{◌≡◌, ◌<◌, ◌≤◌, List, ℕ, [], ◌∷◌, ◌++◌, length, map, position, true, IfOk, IfSome, OnOk};
+ghost use Rattle.std.specs.Prelude.{All, ◌≡◌, ◌<◌, ◌≤◌, List, ℕ, [], ◌∷◌, ◌++◌, length, map, position, true, IfOk, IfSome, OnOk};
 ghost use Rattle.ot_base.specs.declared.limits.TheConstants.{CANDIDATE_LIMIT};
+ghost use Rattle.erc_vectors.specs.declared.condition.TheConstants.{LIMIT};
+ghost use Rattle.erc_vectors.specs.Masks.{IsMask};
+ghost use Rattle.ot_theory.specs.Conditions.{condition, is_win, is_loss};
 ghost use Rattle.ot_theory.specs.Problems.{same_profile};
 ghost use Rattle.violation_profiles.specs.Classes.{AreClassesOf, key_of, keys_of};
+ghost use Rattle.violation_profiles.specs.Planes.{HasPlanes, planes_of};
 
-use erc_vectors::{List, NoMemory};
+use crate::masks::masks_of;
+use crate::planes::Planes;
+use erc_vectors::{LIMIT, List, Mask, NoMemory};
 use ot_base::CandidateRow;
 use std::alloc::Global;
 
-/// A class: the profile of its candidates, and their positions in the input, from 0 on and in order.
+/// A class: the profile of its candidates, with its bit planes, and their positions in the input, from 0 on and in order.
 #[derive(Debug, Drop)]
 pub(crate) struct Class {
     pub(crate) profile: List<u32>,
+    pub(crate) planes: Planes,
     pub(crate) members: List<u32>,
 }
 
 impl Class {
     /// The class of one candidate alone.
-    fn of(alloc: Global, profile: &[u32], candidate: u32) -> Result<Class, NoMemory>
-        ensures { IfOk result (λ class. (class.profile ≡ profile.now) × (class.members ≡ candidate ∷ [])) }
+    fn of(alloc: Global, profile: &[u32], planes: Planes, candidate: u32) -> Result<Class, NoMemory>
+        ensures { IfOk result (λ class. (class.profile ≡ profile.now) × (class.planes ≡ planes) × (class.members ≡ candidate ∷ [])) }
     {
         Ok(Class {
             profile: List::of(alloc, profile)?,
+            planes,
             members: List::of(alloc, &[candidate])?,
         })
+    }
+
+    /// The constraints at which the class has fewer violations than the other, and those at which it has more.
+    pub(crate) fn masks_over(&self, loser: &Class) -> (Mask, Mask)
+        requires same { length loser.now.profile ≡ length self.now.profile }
+        requires small { length self.now.profile ≤ LIMIT }
+        requires winner { HasPlanes self.now }
+        requires loser { HasPlanes loser.now }
+        ensures wins { IsMask is_win (condition self.now.profile loser.now.profile) result.0 }
+        ensures losses { IsMask is_loss (condition self.now.profile loser.now.profile) result.1 }
+    {
+        match self.planes.masks_over(&loser.planes) {
+            Some(masks) => masks,
+            None => masks_of(self.profile.as_slice(), loser.profile.as_slice()),
+        }
     }
 }
 
 /// The classes of an input's candidates.
 pub(crate) fn classes_of(alloc: Global, candidates: &[CandidateRow]) -> Result<Vec<Class>, NoMemory>
-    requires { length candidates.now ≤ CANDIDATE_LIMIT }
-    ensures { IfOk result (λ classes. AreClassesOf (map (λ row. row.violations) candidates.now) classes.items) }
+    requires few { length candidates.now ≤ CANDIDATE_LIMIT }
+    requires narrow { All (λ row. length row.violations ≤ LIMIT) candidates.now }
+    ensures classes { IfOk result (λ classes. AreClassesOf (map (λ row. row.violations) candidates.now) classes.items) }
+    ensures planes { IfOk result (λ classes. All HasPlanes classes.items) }
 {
     let mut classes = Vec::new(alloc);
     let mut keys = List::new(alloc);
@@ -50,30 +75,22 @@ fn add_candidate(
     profile: &[u32],
     candidate: u32,
 ) -> Result<(), NoMemory>
-    requires { keys.old ≡ keys_of classes.old.items }
+    requires narrow { length profile.now ≤ LIMIT }
+    requires keys { keys.old ≡ keys_of classes.old.items }
     ensures classes { OnOk result ((profiles : List (List ℕ)) → length profiles ≡ candidate → AreClassesOf profiles classes.old.items
         → AreClassesOf (profiles ++ profile.now ∷ []) classes.new.items) }
     ensures keys { OnOk result (keys.new ≡ keys_of classes.new.items) }
+    ensures planes { OnOk result (All HasPlanes classes.old.items → All HasPlanes classes.new.items) }
 {
-    let key = key_of(profile);
+    let planes = Planes::of(profile);
+    let key = planes.key();
     match class_with_key(classes.as_slice(), keys.as_slice(), profile, key) {
         Some(a) => classes[a].members.push(candidate),
         None => {
             keys.push(key)?;
-            add_class(alloc, classes, profile, candidate)
+            add_class(alloc, classes, profile, planes, candidate)
         }
     }
-}
-
-/// A number for a profile, by which most profiles that differ are told apart.
-fn key_of(profile: &[u32]) -> u64
-    ensures { result ≡ key_of profile.now }
-{
-    let mut key: u64 = 0;
-    for violation in profile {
-        key = key.wrapping_mul(5).wrapping_add(u64::from(*violation));
-    }
-    key
 }
 
 /// The class with this profile, by its key. A profile is compared only with those that have the same key.
@@ -96,12 +113,15 @@ fn add_class(
     alloc: Global,
     classes: &mut Vec<Class>,
     profile: &[u32],
+    planes: Planes,
     candidate: u32,
 ) -> Result<(), NoMemory>
-    ensures { OnOk result ((map (λ class. class.profile) classes.new.items ≡ map (λ class. class.profile) classes.old.items ++ profile.now ∷ [])
+    requires { planes ≡ planes_of profile.now }
+    ensures class { OnOk result ((map (λ class. class.profile) classes.new.items ≡ map (λ class. class.profile) classes.old.items ++ profile.now ∷ [])
         × (map (λ class. class.members) classes.new.items ≡ map (λ class. class.members) classes.old.items ++ (candidate ∷ []) ∷ [])) }
+    ensures planes { OnOk result (All HasPlanes classes.old.items → All HasPlanes classes.new.items) }
 {
-    classes.push(Class::of(alloc, profile, candidate)?)?;
+    classes.push(Class::of(alloc, profile, planes, candidate)?)?;
     Ok(())
 }
 

@@ -11,6 +11,8 @@
 mod classes;
 mod input_classes;
 mod laws;
+mod masks;
+mod planes;
 mod problem;
 mod shared;
 #[cfg(test)]

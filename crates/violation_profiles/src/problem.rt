@@ -1,7 +1,6 @@
 //! The problem that a tableau poses: the classes of each input, and the conditions between them.
 
 ghost use Rattle.std.specs.Prelude.{◌≡◌, ◌≢◌, ◌+◌, ◌*◌, ◌^◌, ◌<◌, ◌≤◌, length, nat_lt, IfOk, IfSome, option_map};
-ghost use Rattle.std.specs.Simd.Lanes.{chunk, mask_l, zip2};
 ghost use Rattle.erc_vectors.specs.declared.condition.TheConstants.{LIMIT};
 ghost use Rattle.ot_base.specs.declared.limits.TheConstants.{INPUT_LIMIT, CANDIDATE_LIMIT};
 ghost use Rattle.ot_base.specs.Acceptable.{IsAcceptable};
@@ -12,14 +11,10 @@ ghost use Rattle.ot_base.specs.Tableaus.{problem_of};
 ghost use Rattle.violation_profiles.specs.WellFormed.{IsWellFormed};
 
 use crate::input_classes::InputClasses;
-use erc_vectors::{Condition, LIMIT, List, Mask, NoMemory};
+use erc_vectors::{Condition, List, Mask, NoMemory};
 use ot_base::{ClassId, InId, Tableau};
 use std::alloc::Global;
 use std::marker::Model;
-use std::simd::prelude::*;
-
-/// How many violations are compared at a time.
-const LANES: usize = 4;
 
 /// A problem of optimality: a number of constraints, and inputs whose candidates fall into classes of equal profiles, which
 /// are numbered in order of their first candidate. A contract sees it as the problem of the theory. It has at most 64
@@ -124,41 +119,18 @@ impl Problem {
         ensures width { length result ≡ self.now.constraints }
     {
         let width = self.constraints();
-        let (wins, losses) = masks_of(self.profile(i, a), self.profile(i, b));
+        let (wins, losses) = self.masks(i, a, b);
         Condition::of_masks(width, wins, losses)
     }
-}
 
-/// The constraints at which the winner has fewer violations than the loser, and those at which it has more.
-fn masks_of(winner: &[u32], loser: &[u32]) -> (Mask, Mask)
-    requires same { length loser.now ≡ length winner.now }
-    requires small { length winner.now ≤ LIMIT }
-    ensures wins { IsMask is_win (condition winner.now loser.now) result.0 }
-    ensures losses { IsMask is_loss (condition winner.now loser.now) result.1 }
-{
-    let mut wins: Mask = 0;
-    let mut losses: Mask = 0;
-    for k in 0..winner.len() / LANES {
-        wins |= fewer_in_lanes(winner, loser, LANES * k);
-        losses |= fewer_in_lanes(loser, winner, LANES * k);
+    /// The constraints at which one class of an input has fewer violations than another, and those at which it has more.
+    fn masks(&self, i: InId, a: ClassId, b: ClassId) -> (Mask, Mask)
+        requires input { i.0 < length self.now.inputs }
+        requires winner { a.0 < length (classes_at self.now i.0) }
+        requires loser { b.0 < length (classes_at self.now i.0) }
+        ensures wins { IsMask is_win (condition (profile_at self.now i.0 a.0) (profile_at self.now i.0 b.0)) result.0 }
+        ensures losses { IsMask is_loss (condition (profile_at self.now i.0 a.0) (profile_at self.now i.0 b.0)) result.1 }
+    {
+        self.inputs.as_slice()[i.0 as usize].masks(a.0 as usize, b.0 as usize)
     }
-    for c in winner.len() - winner.len() % LANES..winner.len() {
-        wins |= Mask::from(winner[c] < loser[c]) << c;
-        losses |= Mask::from(loser[c] < winner[c]) << c;
-    }
-    (wins, losses)
-}
-
-/// Of the constraints from `start` on, as many as there are lanes, those at which the one profile has fewer violations than
-/// the other.
-#[inline]
-fn fewer_in_lanes(fewer: &[u32], more: &[u32], start: usize) -> Mask
-    requires fewer { start + LANES ≤ length fewer.now }
-    requires more { start + LANES ≤ length more.now }
-    requires small { start + LANES ≤ LIMIT }
-    ensures { result ≡ mask_l (zip2 nat_lt (chunk start LANES fewer.now) (chunk start LANES more.now)) * 2 ^ start }
-{
-    let fewer = u32x4::from_slice(&fewer[start..]);
-    let more = u32x4::from_slice(&more[start..]);
-    fewer.simd_lt(more).to_bitmask() << start
 }

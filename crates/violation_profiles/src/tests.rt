@@ -111,3 +111,17 @@ fn no_count_and_one_class(rt: HostRuntime) -> Result<(), Fail> {
     );
     Ok(())
 }
+
+#[test]
+fn violations_of_more_bits_than_planes(rt: HostRuntime) -> Result<(), Fail> {
+    let rows = [
+        [(1, [8, 0, 200, 3]), (0, [7, 1, 200, 4]), (0, [9, 0, 16, 3])],
+        [(0, [7, 6, 5, 4]), (2, [6, 7, 5, 0]), (0, [0, 0, 8, 1])],
+    ];
+    assert_eq!(rt;
+        posed(rt.alloc(), &rows)?.as_str(),
+        "[8, 0, 200, 3] [0] [7, 1, 200, 4] [1] [9, 0, 16, 3] [2] Some(0) LWEW WELE WLEL WLLL LEWE LWWW \
+         [7, 6, 5, 4] [0] [6, 7, 5, 0] [1] [0, 0, 8, 1] [2] Some(1) LWEL LLWL WLEW LLWW WWLW WWLL "
+    );
+    Ok(())
+}

@@ -9,5 +9,5 @@ winner_of-winner-requires-clause-few c =
     let profiles = map (λ row. row.violations) rows in
     let items = c.in_ok-classes.classes.items in
     let candidates = ap length c.as_slice-candidates.ensures in
-    let distinct = ap length c.in_ok-classes.ensures.distinct in
-    omega (arith, ap length c.as_slice.ensures.value, length-map items (λ class. class.profile), distinct, length-classes_of profiles, length-map rows (λ row. row.violations), candidates, c.requires)
+    let distinct = ap length c.in_ok-classes.ensures.classes.distinct in
+    omega (arith, ap length c.as_slice.ensures.value, length-map items (λ class. class.profile), distinct, length-classes_of profiles, length-map rows (λ row. row.violations), candidates, c.requires.few)

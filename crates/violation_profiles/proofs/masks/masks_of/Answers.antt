@@ -2,7 +2,7 @@ use Rattle.std.proofs.Common.{◌≡◌, ◌+◌, ◌*◌, ◌-◌, ◌%◌, len
 use Rattle.ot_theory.specs.Conditions.{condition, is_win, is_loss}
 use Rattle.erc_vectors.proofs.Bits.{IsMask-all}
 use Rattle.violation_profiles.proofs.Masked.{length-condition, wins-lanes, losses-lanes, wins-more, losses-more, bool_byte-cond}
-use Rattle.violation_profiles.proofs.problem.masks_of.Goals as goal
+use Rattle.violation_profiles.proofs.masks.masks_of.Goals as goal
 
 pub loop-k-preserved : goal.loop-k-preserved
 loop-k-preserved c =

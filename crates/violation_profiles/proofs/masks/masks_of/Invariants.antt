@@ -2,7 +2,7 @@
 use Rattle.std.proofs.Common.{◌*◌, take}
 use Rattle.ot_theory.specs.Conditions.{condition, is_win, is_loss}
 use Rattle.erc_vectors.specs.Masks.{IsMask}
-use Rattle.violation_profiles.proofs.problem.masks_of.Given as goal
+use Rattle.violation_profiles.proofs.masks.masks_of.Given as goal
 
 abbrev pub invariant-loop-k : goal.invariant-loop-k
 invariant-loop-k l = record {
