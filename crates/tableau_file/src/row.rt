@@ -165,14 +165,15 @@ impl Inputs {
         ensures { OnOk result ((n : ℕ) (line : ℕ × List (List ℕ)) → cell line.1 0 ≡ input.now → candidate_of n line ≡ row → self.new ≡ with_row n self.old line) }
     {
         let Some(mut last) = self.pop() else {
-            return self.push(input_of(alloc, input, row)?);
+            return self.push(input_of(alloc, input, row, 1)?);
         };
         if continues(&last, input) {
             last.candidates.push(row)?;
             return self.push(last);
         }
+        let room = last.candidates.len();
         self.push(last)?;
-        self.push(input_of(alloc, input, row)?)
+        self.push(input_of(alloc, input, row, room)?)
     }
 }
 
@@ -183,12 +184,17 @@ fn continues(last: &InputRows, input: &[u8]) -> bool
     input.is_empty() || input == last.text.bytes()
 }
 
-/// A new input with its first candidate.
-fn input_of(alloc: Global, text: &[u8], row: CandidateRow) -> Result<InputRows, NoMemory>
+/// A new input with its first candidate, and with room for so many: most inputs have as many as the one before them.
+fn input_of(
+    alloc: Global,
+    text: &[u8],
+    row: CandidateRow,
+    room: usize,
+) -> Result<InputRows, NoMemory>
     ensures { IfOk result (λ input. input ≡ record { text = text.now; candidates = row ∷ [] }) }
 {
     let text = Label::of(alloc, text)?;
-    let mut candidates = List::new(alloc);
+    let mut candidates = List::from_vec(Vec::with_capacity(alloc, room)?);
     candidates.push(row)?;
     Ok(InputRows { text, candidates })
 }

@@ -58,8 +58,8 @@ pub(crate) fn classes_of(alloc: Global, candidates: &[CandidateRow]) -> Result<V
     ensures classes { IfOk result (λ classes. AreClassesOf (map (λ row. row.violations) candidates.now) classes.items) }
     ensures planes { IfOk result (λ classes. All HasPlanes classes.items) }
 {
-    let mut classes = Vec::new(alloc);
-    let mut keys = List::new(alloc);
+    let mut classes = Vec::with_capacity(alloc, candidates.len())?;
+    let mut keys = List::from_vec(Vec::with_capacity(alloc, candidates.len())?);
     for (k, row) in candidates.iter().enumerate() {
         let profile = row.violations.as_slice();
         add_candidate(alloc, &mut classes, &mut keys, profile, k as u32)?;
