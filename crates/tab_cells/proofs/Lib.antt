@@ -1,3 +1,4 @@
+mod Groups
 pub mod Examples
 pub mod FirstLine
 pub mod FirstCell

@@ -1,5 +1,5 @@
 -- A line as cells, and the text of a cell.
-use Rattle.std.specs.Prelude.{ℕ, ◌-◌, List, [], ◌∷◌, Bool, false, ◌&&◌, ◌||◌, ◌==◌, Option, None, Some, nat_le, length, take, drop, slice_index, if◌then◌else◌}
+use Rattle.std.specs.Prelude.{ℕ, ◌+◌, ◌-◌, ◌*◌, ◌%◌, ◌^◌, List, [], ◌∷◌, Bool, false, ◌&&◌, ◌||◌, ◌==◌, Option, None, Some, nat_le, length, take, drop, slice_index, if◌then◌else◌}
 use Rattle.std.specs.List.{slice_split, prefix_len, suffix_len}
 use denote.Ref.{Bor}
 
@@ -23,6 +23,10 @@ is_one_digit (c ∷ d ∷ rest) = false
 
 abbrev pub digit_of : List ℕ → ℕ
 digit_of cell = slice_index cell 0 - 48
+
+-- two bytes as one number, counted on from that of the digit 0 and a tab
+abbrev pub pair_of : ℕ → ℕ → ℕ
+pair_of c d = (c + 256 * d + (2 ^ 16 - 2352)) % 2 ^ 16
 
 abbrev pub is_space : ℕ → Bool
 is_space c = c == 32

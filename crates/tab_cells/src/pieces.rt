@@ -1,12 +1,20 @@
 //! Bytes as lines, and a line as cells.
 
-ghost use Rattle.std.specs.Prelude.{◌≡◌, ◌∷◌, ◌++◌, ◌<◌, length, map, take, drop, min};
+ghost use Rattle.std.specs.Prelude.{◌≡◌, ◌∷◌, ◌++◌, ◌+◌, ◌*◌, ◌<◌, ◌≤◌, ℕ, true, slice_index, length, map, take, drop, min};
 ghost use Rattle.std.specs.List.{prefix_len};
 ghost use Rattle.tab_cells.specs.Lines.{lines_of, after_end};
-ghost use Rattle.tab_cells.specs.Cells.{cells_of, cells_left, is_digit, is_one_digit, digit_of};
+ghost use Rattle.tab_cells.specs.declared.pieces.TheConstants.{GROUP};
+ghost use Rattle.tab_cells.specs.Cells.{pair_of, cells_of, cells_left, is_digit, is_one_digit, digit_of};
 
 use memchr::memchr2;
 use std::marker::Model;
+use std::simd::prelude::*;
+
+/// How many cells of one digit are looked at at a time.
+const GROUP: usize = 8;
+
+/// The digit 0 and a tab behind it, as one number.
+const ZERO: u16 = 0x0930;
 
 /// The lines that are left, each borrowed from the file.
 #[derive(Debug, Drop)]
@@ -151,7 +159,8 @@ fn cut_digits<'a>(line: &'a [u8], numbers: &mut [u32]) -> (usize, Option<&'a [u8
     ensures numbers { numbers.new ≡ map digit_of (take result.0 (cells_of line.now)) ++ drop result.0 numbers.old }
     ensures rest { cells_left result.1 ≡ drop result.0 (cells_of line.now) }
 {
-    for k in 0..numbers.len() {
+    let front = cut_groups(line, numbers);
+    for k in front..numbers.len() {
         let left = &line[2 * k..];
         if left.is_empty() || !is_digit(left[0]) {
             return (k, Some(left));
@@ -165,6 +174,46 @@ fn cut_digits<'a>(line: &'a [u8], numbers: &mut [u32]) -> (usize, Option<&'a [u8
         }
     }
     (numbers.len(), Some(&line[2 * numbers.len()..]))
+}
+
+/// The number of the first cells of one digit, in groups, behind each of which a tab stands, and for whose numbers there is
+/// room. What is left may begin with such cells too.
+fn cut_groups(line: &[u8], numbers: &mut [u32]) -> usize
+    ensures few { result ≤ length numbers.old }
+    ensures within { 2 * result ≤ length line.now }
+    ensures rest { drop result (cells_of line.now) ≡ cells_of (drop (2 * result) line.now) }
+    ensures passes { prefix_len is_one_digit (cells_of line.now) ≡ result + prefix_len is_one_digit (cells_of (drop (2 * result) line.now)) }
+    ensures numbers { numbers.new ≡ map digit_of (take result (cells_of line.now)) ++ drop result numbers.old }
+{
+    let groups = numbers.len().min(line.len() / 2) / GROUP;
+    for g in 0..groups {
+        let pairs = pairs_at(line, GROUP * g);
+        if !are_digits(pairs) {
+            return GROUP * g;
+        }
+        pairs.cast::<u32>().copy_to_slice(&mut numbers[GROUP * g..]);
+    }
+    GROUP * groups
+}
+
+/// The next bytes two by two, a digit and a tab being its number, and anything else a greater one.
+#[inline]
+fn pairs_at(line: &[u8], k: usize) -> u16x8
+    requires { 2 * k + 2 * GROUP ≤ length line.now }
+    ensures lanes { length result ≡ GROUP }
+    ensures values { (j : ℕ) → j < GROUP → slice_index result j ≡ pair_of (slice_index line.now (2 * (k + j))) (slice_index line.now (2 * (k + j) + 1)) }
+{
+    let pairs = u16x8::from_le_bytes(u8x16::from_slice(&line[2 * k..]));
+    pairs - u16x8::splat(ZERO)
+}
+
+/// Whether each is the number of a digit.
+#[inline]
+fn are_digits(pairs: u16x8) -> bool
+    requires { length pairs ≡ GROUP }
+    ensures { result ≡ true → (j : ℕ) → j < GROUP → slice_index pairs j ≤ 9 }
+{
+    pairs.simd_gt(u16x8::splat(9)).to_bitmask() == 0
 }
 
 fn is_digit(c: u8) -> bool

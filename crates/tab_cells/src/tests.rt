@@ -62,6 +62,27 @@ fn takes_digits(rt: HostRuntime) {
 }
 
 #[test]
+fn takes_digits_in_groups(rt: HostRuntime) {
+    let table: [(&str, usize); 6] = [
+        ("0\t1\t2\t3\t4\t5\t6\t7\t8\t9\t0\t1\t2\t3\t4\t5\t6\t7", 17),
+        ("0\t1\t2\t3\t4\t5\t6\t7\t8\t9\t0\t1\t2\t3\t4\t5", 16),
+        ("0\t1\t2\t3\t4\t5\t6\t7\t8\t9\t0\t1\t2 \t3\t4\t5\t6", 12),
+        ("0\t1\t2\t3\t4\t55\t6\t7\t8\t9", 5),
+        ("0\t1\t2\t3\t4\t5\t6\t:\t8\t9", 7),
+        ("0\t1\t2\t3\t4\t5\t6\t7", 8),
+    ];
+    for (line, taken) in table {
+        let mut found = [77; 17];
+        let mut left = cells(line.as_bytes());
+        assert_eq!(rt; left.take_digits(&mut found), taken, "of {line:?}");
+        for k in 0..found.len() {
+            let number = if k < taken { k as u32 % 10 } else { 77 };
+            assert_eq!(rt; found[k], number, "at {k} of {line:?}");
+        }
+    }
+}
+
+#[test]
 fn takes_the_text_of_cells(rt: HostRuntime) -> Result<(), Fail> {
     let table = [
         ("", "", false),
