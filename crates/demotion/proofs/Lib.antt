@@ -2,3 +2,4 @@ pub mod Stratum
 pub mod Opened
 pub mod Masked
 pub mod Stuck
+pub mod Narrowing

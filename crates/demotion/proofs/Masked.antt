@@ -54,37 +54,40 @@ closed-mask marks w placed short small m = elim (eqb_tells (bit_and w placed) 0)
         (and_from _ _ win (lt-ltb _ _ (omega (arith, level-bit placed k h.0, bit_at-lt w k))))
 
 -- ---- the conditions so far, and one more
-max_bits : (a b : Bool) → max (cond a 1 0) (cond b 1 0) ≡ cond (a || b) 1 0
+pub max_bits : (a b : Bool) → max (cond a 1 0) (cond b 1 0) ≡ cond (a || b) 1 0
 max_bits true true = refl
 max_bits true false = refl
 max_bits false true = refl
 max_bits false false = refl
 
-or_false : (a : Bool) → (a || false) ≡ a
-or_false true = refl
-or_false false = refl
+-- what is blocked by the conditions so far, with one more
+pub blocked-more : (placed : ℕ) (set : List (List Mark)) (k mask losses : ℕ) (d : List Mark) → k < length set → ((c : ℕ) → bit_at mask c ≡ cond (is_blocked (levels_of placed) (take k set) c) 1 0)
+    → ((c : ℕ) → bit_at losses c ≡ cond (not (is_closed (levels_of placed) (get_or set k d)) && is_loss (mark_at (get_or set k d) c)) 1 0)
+    → (c : ℕ) → bit_at (bit_or mask losses) c ≡ cond (is_blocked (levels_of placed) (take (k + 1) set) c) 1 0
+blocked-more placed set k mask losses d within h q c =
+    let more = list_any_more (λ m. not (is_closed (levels_of placed) m) && is_loss (mark_at m c)) set k d within in
+    bit_at_or mask losses c ∙ rw (h c, q c, more) (max_bits (is_blocked (levels_of placed) (take k set) c) (not (is_closed (levels_of placed) (get_or set k d)) && is_loss (mark_at (get_or set k d) c)))
 
-pub blocked-open : (placed : ℕ) (set : List (List Mark)) (k mask w l : ℕ) (d : List Mark) → k < length set → length (get_or set k d) ≤ 64 → w < 2 ^ 64 → IsMask is_win (get_or set k d) w → IsMask is_loss (get_or set k d) l
-    → bit_and w placed ≡ 0 → ((c : ℕ) → bit_at mask c ≡ cond (is_blocked (levels_of placed) (take k set) c) 1 0)
-    → (c : ℕ) → bit_at (bit_or mask l) c ≡ cond (is_blocked (levels_of placed) (take (k + 1) set) c) 1 0
-blocked-open placed set k mask w l d within short small p q none h c =
-    let marks : List Mark = get_or set k d in
-    let opened : is_closed (levels_of placed) marks ≡ false = closed-mask marks w placed short small p ∙ ap (λ (x : ℕ). not (x == 0)) none in
-    let before : Bool = is_blocked (levels_of placed) (take k set) c in
-    let more : is_blocked (levels_of placed) (take (k + 1) set) c ≡ (before || is_loss (mark_at marks c)) =
-    list_any_more (λ m. not (is_closed (levels_of placed) m) && is_loss (mark_at m c)) set k d within ∙ ap (λ (t : Bool). before || (not t && is_loss (mark_at marks c))) opened in
-    bit_at_or mask l c ∙ rw (h c, q c, more) (max_bits before (is_loss (mark_at marks c)))
+-- what a condition without L blocks, and one whose W's and the placed constraints are compared
+pub losses-none : (marks : List Mark) (losses placed : ℕ) → IsMask is_loss marks losses → losses ≡ 0 → (c : ℕ) → bit_at 0 c ≡ cond (not (is_closed (levels_of placed) marks) && is_loss (mark_at marks c)) 1 0
+losses-none marks losses placed m none c = bit_at-zero c ∙ by (not (is_closed (levels_of placed) marks)) (is_loss (mark_at marks c)) (sym (bit_at-zero c) ∙ ap (λ (x : ℕ). bit_at x c) (sym none) ∙ m c)
+  where
+    by : (a b : Bool) → ◌≡◌ {A = ℕ} 0 (cond b 1 0) → ◌≡◌ {A = ℕ} 0 (cond (a && b) 1 0)
+    by a true e = absurd (omega arith)
+    by true false e = refl
+    by false false e = refl
 
-pub blocked-closed : (placed : ℕ) (set : List (List Mark)) (k mask w : ℕ) (d : List Mark) → k < length set → length (get_or set k d) ≤ 64 → w < 2 ^ 64 → IsMask is_win (get_or set k d) w
-    → bit_and w placed ≢ 0 → ((c : ℕ) → bit_at mask c ≡ cond (is_blocked (levels_of placed) (take k set) c) 1 0)
-    → (c : ℕ) → bit_at mask c ≡ cond (is_blocked (levels_of placed) (take (k + 1) set) c) 1 0
-blocked-closed placed set k mask w d within short small p some h c =
-    let marks : List Mark = get_or set k d in
-    let closed : is_closed (levels_of placed) marks ≡ true = closed-mask marks w placed short small p ∙ ap not (ne_eqb (bit_and w placed) 0 some) in
-    let before : Bool = is_blocked (levels_of placed) (take k set) c in
-    let more : is_blocked (levels_of placed) (take (k + 1) set) c ≡ before =
-    list_any_more (λ m. not (is_closed (levels_of placed) m) && is_loss (mark_at m c)) set k d within ∙ ap (λ (t : Bool). before || (not t && is_loss (mark_at marks c))) closed ∙ or_false before in
-    h c ∙ rw more refl
+pub losses-open : (marks : List Mark) (wins losses placed : ℕ) → length marks ≤ 64 → wins < 2 ^ 64 → IsMask is_win marks wins → IsMask is_loss marks losses → bit_and wins placed ≡ 0
+    → (c : ℕ) → bit_at losses c ≡ cond (not (is_closed (levels_of placed) marks) && is_loss (mark_at marks c)) 1 0
+losses-open marks wins losses placed short small p q none c =
+    let opened : is_closed (levels_of placed) marks ≡ false = closed-mask marks wins placed short small p ∙ ap (λ (x : ℕ). not (x == 0)) none in
+    rw opened (q c)
+
+pub losses-closed : (marks : List Mark) (wins placed : ℕ) → length marks ≤ 64 → wins < 2 ^ 64 → IsMask is_win marks wins → bit_and wins placed ≢ 0
+    → (c : ℕ) → bit_at 0 c ≡ cond (not (is_closed (levels_of placed) marks) && is_loss (mark_at marks c)) 1 0
+losses-closed marks wins placed short small p some c =
+    let closed : is_closed (levels_of placed) marks ≡ true = closed-mask marks wins placed short small p ∙ ap not (ne_eqb (bit_and wins placed) 0 some) in
+    rw closed (bit_at-zero c)
 
 -- ---- by the mask as by the numbers
 any-range_same : (f g : ℕ → Bool) (s n : ℕ) → ((k : ℕ) → k < s + n → f k ≡ g k) → list_any f (range_with_len s n) ≡ list_any g (range_with_len s n)
@@ -158,27 +161,3 @@ IsRound-masked n given mask blocked set old new few long same widths m b each = 
 -- at first none is placed
 pub placed-none : (levels : List ℕ) → All (λ level. level ≡ 0) levels → (c : ℕ) → c < length levels → bit_at 0 c ≡ cond (nat_lt 0 (slice_index levels c)) 1 0
 placed-none levels none c below = let z : slice_index levels c ≡ 0 = none c 0 below in bit_at-zero c ∙ rw z refl
-
--- Open by the mask is open by the numbers.
-pub open-same : (n mask : ℕ) (levels : List ℕ) (set : List (List Mark)) → n ≤ 64 → All (λ marks. length marks ≡ n) set → ((c : ℕ) → c < n → bit_at mask c ≡ cond (nat_lt 0 (slice_index levels c)) 1 0) → map (is_open (levels_of mask)) set ≡ map (is_open levels) set
-open-same n mask levels [] few widths m = refl
-open-same n mask levels (marks ∷ set) few widths m =
-    let here = closed-same levels (levels_of mask) n marks (All-head (λ x. length x ≡ n) marks set widths) (placed-same n mask levels few m) in
-    let later = open-same n mask levels set few (All-tail (λ x. length x ≡ n) marks set widths) m in
-    rw (here, later) refl
-
-pub open-mask : (marks : List Mark) (w l placed : ℕ) → length marks ≤ 64 → w < 2 ^ 64 → l < 2 ^ 64 → IsMask is_win marks w → IsMask is_loss marks l → (not (l == 0) && (bit_and w placed == 0)) ≡ is_open (levels_of placed) marks
-open-mask marks w l placed short small low p q =
-    rw (any-mask is_loss marks l refl low q, closed-mask marks w placed short small p) (by (not (l == 0)) (bit_and w placed == 0))
-  where
-    by : (a b : Bool) → (a && b) ≡ (a && not (not b))
-    by true true = refl
-    by true false = refl
-    by false b = refl
-
-pub open-lossless : (marks : List Mark) (l placed : ℕ) → l < 2 ^ 64 → IsMask is_loss marks l → l ≡ 0 → false ≡ is_open (levels_of placed) marks
-open-lossless marks l placed low q none = rw (any-mask is_loss marks l refl low q, none) refl
-
-pub flags-more : (levels : List ℕ) (set : List (List Mark)) (k : ℕ) (marks : List Mark) (old new : List Bool) (flag : Bool) → k < length set → marks ≡ get_or set k marks → flag ≡ is_open levels marks → old ≡ map (is_open levels) (take k set) → new ≡ old ++ flag ∷ [] → new ≡ map (is_open levels) (take (k + 1) set)
-flags-more levels set k marks old new flag below here f e pushed =
-    pushed ∙ ap (λ (l : List Bool). l ++ flag ∷ []) e ∙ ap (λ (b : Bool). map (is_open levels) (take k set) ++ b ∷ []) (f ∙ ap (is_open levels) here) ∙ sym (map_more (is_open levels) set k marks below)

@@ -1,8 +1,5 @@
 -- What demotion comes to, case by case.
-use Rattle.std.specs.Prelude.{◌≡◌, ℕ, Bool, List, map, All}
-use Rattle.ot_theory.specs.declared.Mark.{Mark}
-use Rattle.ot_theory.specs.Demotion.{is_open}
-use Rattle.ot_theory.proofs.Resuming.{IsGuarded}
+use Rattle.std.specs.Prelude.{ℕ, List}
 use Rattle.demotion.specs.declared.demoted.Demoted.{Demoted}
 use Rattle.demotion.specs.declared.demoted.Demoted.TheVariants.{Ranked, Stuck}
 
@@ -15,9 +12,3 @@ IfRanked (Stuck positions) P = Unit {0}
 abbrev pub IfStuck : Demoted → (List ℕ → Type 0) → Type 0
 IfStuck (Ranked levels) P = Unit {0}
 IfStuck (Stuck positions) P = P positions
-
--- Whether each condition is open, for some numbers of the constraints in which each L of a condition has a W above it.
-pub record AreFlags (set : List (List Mark)) (flags : List Bool) : Type 0 where
-  pub levels : List ℕ
-  pub guarded : All (IsGuarded levels) set
-  pub opened : flags ≡ map (is_open levels) set

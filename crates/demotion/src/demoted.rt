@@ -4,8 +4,7 @@ ghost use Rattle.ot_theory.specs.Conditions.{is_loss};
 ghost use Rattle.ot_theory.specs.Hierarchies.{IsLeastHierarchy};
 ghost use Rattle.ot_theory.specs.Demotion.{is_open, open_positions, AreLeftOpen};
 ghost use Rattle.ot_theory.specs.Refutations.{no_ranking_keeps};
-ghost use Rattle.demotion.specs.Placed.{levels_of};
-ghost use Rattle.demotion.specs.Outcomes.{AreFlags, IfRanked, IfStuck};
+ghost use Rattle.demotion.specs.Outcomes.{IfRanked, IfStuck};
 
 use crate::rounds::{is_closed, place_in_rounds};
 use erc_vectors::{ConId, Condition, LIMIT, List, Mark, NoMemory, Strata};
@@ -51,45 +50,6 @@ pub fn least_hierarchy(n: usize, set: &[Condition]) -> Option<Strata>
 {
     let mut levels = [0; LIMIT];
     hierarchy_of(&mut levels[..n], set)
-}
-
-/// Of each condition, whether demotion leaves it open: it has an L, and none of its W's is placed in the end.
-pub fn open_flags(alloc: Global, n: usize, set: &[Condition]) -> Result<List<bool>, NoMemory>
-    requires within { n ≤ LIMIT }
-    requires widths { All (λ marks. length marks ≡ n) set.now }
-    ensures { IfOk result (λ flags. AreFlags set.now flags) }
-{
-    let mut levels = [0; LIMIT];
-    flags_in(alloc, &mut levels[..n], set)
-}
-
-fn flags_in(alloc: Global, levels: &mut [u8], set: &[Condition]) -> Result<List<bool>, NoMemory>
-    requires small { length levels.old ≤ LIMIT }
-    requires unplaced { All (λ level. level ≡ 0) levels.old }
-    requires widths { All (λ marks. length marks ≡ length levels.old) set.now }
-    ensures { IfOk result (λ flags. AreFlags set.now flags) }
-{
-    let placed = place_in_rounds(levels, set);
-    flags_of(alloc, placed, set)
-}
-
-fn flags_of(alloc: Global, placed: u64, set: &[Condition]) -> Result<List<bool>, NoMemory>
-    requires { All (λ marks. length marks ≤ LIMIT) set.now }
-    ensures { IfOk result (λ flags. flags ≡ map (is_open (levels_of placed)) set.now) }
-{
-    let mut flags = List::new(alloc);
-    for condition in set {
-        flags.push(opens(placed, condition))?;
-    }
-    Ok(flags)
-}
-
-/// Whether a condition is open where these constraints are placed.
-fn opens(placed: u64, condition: &Condition) -> bool
-    requires { length condition.now ≤ LIMIT }
-    ensures { result ≡ is_open (levels_of placed) condition.now }
-{
-    condition.l_mask() != 0 && condition.w_mask() & placed == 0
 }
 
 /// The hierarchy that demotion builds from no placed constraint, if it places all.

@@ -7,13 +7,15 @@
 #![tactic(auto)]
 
 mod demoted;
+mod fronts;
 mod order;
 mod rounds;
 mod shared;
 #[cfg(test)]
 mod tests;
 
-pub use demoted::{Demoted, demote, least_hierarchy, open_flags};
+pub use demoted::{Demoted, demote, least_hierarchy};
+pub use fronts::last_needed;
 pub use order::order_of;
 pub use rounds::{blocked_by, is_hopeless};
 pub use shared::demoted_goes;

@@ -1,9 +1,10 @@
 //! Demotion in rounds, with the stratum numbers as its state, 0 for a constraint that is not placed yet, and the placed
 //! constraints as the bits of a mask. So a condition is closed where it has a W in common with that mask.
 
-ghost use Rattle.std.specs.Prelude.{◌≡◌, ℕ, ◌+◌, ◌<◌, ◌≤◌, true, false, length, slice_index, nat_lt, EachIndex, All, Contains, if◌then◌else◌};
+ghost use Rattle.std.specs.Prelude.{◌≡◌, ℕ, ◌+◌, ◌<◌, ◌≤◌, true, false, not, ◌&&◌, length, slice_index, nat_lt, EachIndex, All, Contains, if◌then◌else◌};
 ghost use Rattle.std.specs.Int.{bit_at};
 ghost use Rattle.ot_theory.specs.Rankings.{count_of};
+ghost use Rattle.ot_theory.specs.Conditions.{is_loss, mark_at};
 ghost use Rattle.ot_theory.specs.Hierarchies.{IsLeastHierarchy};
 ghost use Rattle.ot_theory.specs.Demotion.{is_closed, is_blocked, level_after, open_positions, AreLeftOpen};
 ghost use Rattle.ot_theory.specs.Refutations.{no_ranking_keeps};
@@ -64,11 +65,26 @@ pub fn blocked_by(placed: u64, set: &[Condition]) -> u64
 {
     let mut blocked = 0;
     for condition in set {
-        if condition.w_mask() & placed == 0 {
-            blocked |= condition.l_mask();
-        }
+        blocked |= losses_if_open(placed, condition);
     }
     blocked
+}
+
+/// The constraints at which a condition has L where none of its W's is placed, and else none, as bits. Whether it is closed is
+/// hard to foresee. So its L's are read first, which lets the compiler choose without a branch.
+pub(crate) fn losses_if_open(placed: u64, condition: &Condition) -> u64
+    requires { length condition.now ≤ LIMIT }
+    ensures { (c : ℕ) → bit_at result c ≡ (if not (is_closed (levels_of placed) condition.now) && is_loss (mark_at condition.now c) then 1 else 0) }
+{
+    let losses = condition.l_mask();
+    if losses == 0 {
+        return 0;
+    }
+    if condition.w_mask() & placed == 0 {
+        losses
+    } else {
+        0
+    }
 }
 
 /// Whether a constraint with W is placed.

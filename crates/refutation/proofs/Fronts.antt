@@ -1,114 +1,111 @@
--- The conditions of the terms kept so far, and then those of a front of the terms.
-use Rattle.std.proofs.Common.{◌≡◌, ℕ, zero, suc, ◌+◌, ◌-◌, ◌<◌, ◌≤◌, List, [], ◌∷◌, ◌++◌, true, false, arith, refl, sym, ◌∙◌, ap, subst, length, get_or, map, take, take_all, take-take}
+-- The conditions of a front of the terms, and of the terms kept so far.
+use Rattle.std.proofs.Common.{◌≡◌, ℕ, ◌+◌, ◌-◌, ◌<◌, ◌≤◌, List, [], ◌∷◌, ◌++◌, true, false, arith, refl, sym, ◌∙◌, ap, subst, length, get_or, set, map, take, take_all, take-take, drop}
 use Rattle.std.specs.Prelude.{All}
 use Rattle.std.specs.List.{take-map}
-use Rattle.std.proofs.Math.Seq.{take-append-add}
-use Rattle.std.proofs.lemmas.List.{length-map, get_or-map, get_or-take, get_or-append-add, length-take-le, append-nil}
-use Rattle.std.proofs.lemmas.List.Elements.{All-take}
+use Rattle.std.proofs.lemmas.List.{drop-set, drop_all, length-drop, length-map, length-set, length-take-le, get_or-map, get_or-take, map-append, take-set-le}
+use Rattle.std.proofs.lemmas.List.Elements.{All-set}
+use Rattle.std.proofs.lemmas.List.Folds.{list_all-map}
 use Rattle.ot_theory.specs.declared.Mark.{Mark}
 use Rattle.ot_theory.specs.Problems.{Problem}
 use Rattle.ot_theory.specs.Languages as theory
 use Rattle.ot_theory.specs.Languages.{condition_of}
 use Rattle.ot_theory.specs.Refutations.{is_contradiction, is_term, no_ranking_keeps, one_winner_each, certificate_of, EachIsNeeded}
 use Rattle.ot_theory.proofs.Certificates.{certificate-contradiction, certificate-needed}
-use Rattle.std.proofs.lemmas.List.Folds.{list_all-map}
 use Rattle.ot_theory.proofs.Sets.{is_hopeless}
 use Rattle.ot_theory.proofs.Halving.{IsHalved, IsHalved-start, IsHalved-more, IsHalved-end, hopeless-exchanged}
 use Rattle.refutation.specs.declared.term.Term.{Term}
 use Rattle.refutation.specs.Terms.{are_terms, term_of, terms_in}
 
--- the conditions of the terms kept, and then those of the first terms
-abbrev pub conditions_before : Problem → List theory.Term → List theory.Term → ℕ → List (List Mark)
-conditions_before problem kept terms front = map (condition_of problem) (kept ++ take front terms)
-
-pub record AreFront (problem : Problem) (terms kept : List Term) (conditions : List (List Mark)) : Type 0 where
-  pub halved : IsHalved problem (terms_in terms) (terms_in kept) (length conditions - length kept)
-  pub those : conditions ≡ conditions_before problem (terms_in kept) (terms_in terms) (length conditions - length kept)
+-- The conditions of the first terms are at the start of the list, and those of the terms kept at its end.
+pub record AreFront (problem : Problem) (terms kept : List Term) (conditions : List (List Mark)) (front others : ℕ) : Type 0 where
+  pub halved : IsHalved problem (terms_in terms) (terms_in kept) front
+  pub firsts : take front conditions ≡ map (condition_of problem) (take front (terms_in terms))
+  pub those : drop others conditions ≡ map (condition_of problem) (terms_in kept)
+  pub between : front ≤ others
+  pub within : others ≤ length conditions
   pub widths : All (λ marks. length marks ≡ problem.constraints) conditions
 
-pub AreFront-start : (problem : Problem) (terms kept : List Term) (conditions : List (List Mark)) → kept ≡ [] → conditions ≡ map (condition_of problem) (terms_in terms)
-    → All (λ marks. length marks ≡ problem.constraints) conditions → is_hopeless problem (terms_in terms) ≡ true → AreFront problem terms kept conditions
-AreFront-start problem terms kept conditions none e widths h =
-    let whole : length conditions - length kept ≡ length (terms_in terms) = omega (arith, ap length e, length-map (terms_in terms) (condition_of problem), ap length none) in
-    let all : take (length (terms_in terms)) (terms_in terms) ≡ terms_in terms = take_all (length (terms_in terms)) (terms_in terms) (omega arith) in
+pub AreFront-start : (problem : Problem) (terms kept : List Term) (conditions : List (List Mark)) (front others : ℕ) → kept ≡ [] → front ≡ length conditions → others ≡ length conditions → conditions ≡ map (condition_of problem) (terms_in terms)
+    → All (λ marks. length marks ≡ problem.constraints) conditions → is_hopeless problem (terms_in terms) ≡ true → AreFront problem terms kept conditions front others
+AreFront-start problem terms kept conditions front others none e end each widths h =
+    let long : front ≡ length (terms_in terms) = omega (arith, e, ap (λ (l : List (List Mark)). length l) each, length-map (terms_in terms) (condition_of problem)) in
     record {
-      halved = rw (whole, none) (IsHalved-start problem (terms_in terms) h);
-      those = rw (whole, none, all) e;
+      halved = rw (long, none) (IsHalved-start problem (terms_in terms) h);
+      firsts = take_all front conditions (omega arith) ∙ each ∙ ap (map (condition_of problem)) (sym (take_all front (terms_in terms) (omega arith)));
+      those = drop_all others conditions (omega arith) ∙ rw none refl;
+      between = omega arith;
+      within = omega arith;
       widths = widths;
     }
 
+-- the first conditions are those of the first terms
+shorter : (problem : Problem) (terms kept : List Term) (conditions : List (List Mark)) (front others k : ℕ) → AreFront problem terms kept conditions front others → k ≤ front
+    → take k (take front conditions) ≡ map (condition_of problem) (take k (terms_in terms))
+shorter problem terms kept conditions front others k f h =
+    ap (take k) f.firsts ∙ take-map (condition_of problem) k (take front (terms_in terms)) ∙ ap (map (condition_of problem)) (take-take k front (terms_in terms) h)
+
+-- whether no ranking keeps these beside the terms kept
+beside : (problem : Problem) (terms kept : List Term) (conditions : List (List Mark)) (front others k : ℕ) → AreFront problem terms kept conditions front others → k ≤ front
+    → no_ranking_keeps problem.constraints (drop others conditions ++ take k (take front conditions)) ≡ is_hopeless problem (take k (terms_in terms) ++ terms_in kept)
+beside problem terms kept conditions front others k f h =
+    ap (λ (l : List (List Mark)). no_ranking_keeps problem.constraints (l ++ take k (take front conditions))) f.those
+    ∙ ap (λ (l : List (List Mark)). no_ranking_keeps problem.constraints (map (condition_of problem) (terms_in kept) ++ l)) (shorter problem terms kept conditions front others k f h)
+    ∙ ap (no_ranking_keeps problem.constraints) (sym (map-append (condition_of problem) (terms_in kept) (take k (terms_in terms))))
+    ∙ hopeless-exchanged problem (take k (terms_in terms)) (terms_in kept)
+
 -- no ranking keeps them
-pub AreFront-hopeless : (problem : Problem) (terms kept : List Term) (conditions : List (List Mark)) (n : ℕ) → n ≡ problem.constraints → AreFront problem terms kept conditions → no_ranking_keeps n conditions ≡ true
-AreFront-hopeless problem terms kept conditions n e f =
-    rw e (ap (no_ranking_keeps problem.constraints) f.those ∙ hopeless-exchanged problem (take (length conditions - length kept) (terms_in terms)) (terms_in kept) ∙ f.halved.hopeless)
+pub AreFront-hopeless : (problem : Problem) (terms kept : List Term) (conditions : List (List Mark)) (front others n : ℕ) → n ≡ problem.constraints → AreFront problem terms kept conditions front others
+    → no_ranking_keeps n (drop others conditions ++ take front conditions) ≡ true
+AreFront-hopeless problem terms kept conditions front others n e f =
+    let whole : take front (take front conditions) ≡ take front conditions = take-take front front conditions (omega arith) in
+    rw e (rw whole at (beside problem terms kept conditions front others front f (omega arith)) ∙ f.halved.hopeless)
 
--- the first of them are those of a shorter front
-shorter : (problem : Problem) (terms kept : List Term) (conditions : List (List Mark)) (k : ℕ) → AreFront problem terms kept conditions → k ≤ length conditions - length kept
-    → take (length kept + k) conditions ≡ conditions_before problem (terms_in kept) (terms_in terms) k
-shorter problem terms kept conditions k f h = ap (take (length kept + k)) f.those ∙ by (length conditions - length kept) h
-  where
-    by : (front : ℕ) → k ≤ front → take (length kept + k) (conditions_before problem (terms_in kept) (terms_in terms) front) ≡ conditions_before problem (terms_in kept) (terms_in terms) k
-    by front h =
-        ap (λ (n : ℕ). take (n + k) (conditions_before problem (terms_in kept) (terms_in terms) front)) (sym (length-map kept term_of))
-        ∙ take-map (condition_of problem) (length (terms_in kept) + k) (terms_in kept ++ take front (terms_in terms))
-        ∙ ap (map (condition_of problem)) (take-append-add (terms_in kept) (take front (terms_in terms)) k ∙ ap (λ (l : List theory.Term). terms_in kept ++ l) (take-take k front (terms_in terms) h))
+-- a term is there for each condition of the front
+pub AreFront-long : (problem : Problem) (terms kept : List Term) (conditions : List (List Mark)) (front others : ℕ) → AreFront problem terms kept conditions front others → front ≤ length terms
+AreFront-long problem terms kept conditions front others f = omega (arith, f.halved.short, length-map terms term_of)
 
--- one of them behind the terms kept is that of a term
-behind : (problem : Problem) (terms kept : List Term) (conditions : List (List Mark)) (k : ℕ) (e : List Mark) (d : Term) → AreFront problem terms kept conditions → k < length conditions - length kept
-    → get_or conditions (length kept + k) e ≡ condition_of problem (term_of (get_or terms k d))
-behind problem terms kept conditions k e d f h =
-    ap (λ (l : List (List Mark)). get_or l (length kept + k) e) f.those ∙ by (length conditions - length kept) h f.halved.short (omega (arith, ap length f.those))
-  where
-    by : (front : ℕ) → k < front → front ≤ length (terms_in terms) → length kept + k < length (conditions_before problem (terms_in kept) (terms_in terms) front)
-        → get_or (conditions_before problem (terms_in kept) (terms_in terms) front) (length kept + k) e ≡ condition_of problem (term_of (get_or terms k d))
-    by front below short place =
-        let all = terms_in kept ++ take front (terms_in terms) in
-        get_or-map (condition_of problem) all (length kept + k) (term_of d) e (omega (arith, length-map all (condition_of problem)))
-        ∙ ap (condition_of problem) (
-        ap (λ (n : ℕ). get_or all (n + k) (term_of d)) (sym (length-map kept term_of)) ∙ get_or-append-add (terms_in kept) (take front (terms_in terms)) k (term_of d) ∙ get_or-take front (terms_in terms) k (term_of d) below
-        ∙ get_or-map term_of terms k d (term_of d) (omega (arith, length-map terms term_of))
-        )
+-- a condition of the front is that of a term
+of_term : (problem : Problem) (terms kept : List Term) (conditions : List (List Mark)) (front others k : ℕ) (e : List Mark) (d : Term) → AreFront problem terms kept conditions front others → k < front
+    → get_or conditions k e ≡ condition_of problem (term_of (get_or terms k d))
+of_term problem terms kept conditions front others k e d f below =
+    let first = take front (terms_in terms) in
+    let long : length first ≡ front = length-take-le front (terms_in terms) f.halved.short in
+    sym (get_or-take front conditions k e below) ∙ ap (λ (l : List (List Mark)). get_or l k e) f.firsts ∙ get_or-map (condition_of problem) first k (term_of d) e (omega (arith, long))
+    ∙ ap (condition_of problem) (get_or-take front (terms_in terms) k (term_of d) below ∙ get_or-map term_of terms k d (term_of d) (omega (arith, AreFront-long problem terms kept conditions front others f)))
 
 -- The front that ends before the last term that is needed: some ranking keeps it, and none with that term.
-pub AreFront-more : (problem : Problem) (terms kept longer : List Term) (old new : List (List Mark)) (last n m : ℕ) (d : Term) → n ≡ problem.constraints → m ≡ length kept → AreFront problem terms kept old → m + last < length old
-    → no_ranking_keeps n (take (m + last) old) ≡ false → no_ranking_keeps n (take (m + last + 1) old) ≡ true
-    → new ≡ get_or old (m + last) [] ∷ take (m + last) old → longer ≡ get_or terms last d ∷ kept → AreFront problem terms longer new
-AreFront-more problem terms kept longer old new last n m d e count f below some none moved more =
-    let within : last < length old - length kept = omega arith in
-    let at : m + last ≡ length kept + last = omega arith in
-    let next : m + last + 1 ≡ length kept + (last + 1) = omega arith in
-    let before = shorter problem terms kept old last f (omega arith) in
-    let upto = shorter problem terms kept old (last + 1) f (omega arith) in
-    let with_some : is_hopeless problem (take last (terms_in terms) ++ terms_in kept) ≡ false =
-    sym (hopeless-exchanged problem (take last (terms_in terms)) (terms_in kept)) ∙ ap (no_ranking_keeps problem.constraints) (sym before) ∙ rw (e, at) at some in
-    let with_none : is_hopeless problem (take (last + 1) (terms_in terms) ++ terms_in kept) ≡ true =
-    sym (hopeless-exchanged problem (take (last + 1) (terms_in terms)) (terms_in kept)) ∙ ap (no_ranking_keeps problem.constraints) (sym upto) ∙ rw (e, next) at none in
+pub AreFront-more : (problem : Problem) (terms kept longer : List Term) (old new : List (List Mark)) (front others last place n : ℕ) (e : List Mark) (d : Term) → n ≡ problem.constraints → AreFront problem terms kept old front others
+    → last < length (take front old) → place ≡ others - 1 → no_ranking_keeps n (drop others old ++ take last (take front old)) ≡ false → no_ranking_keeps n (drop others old ++ take (last + 1) (take front old)) ≡ true
+    → new ≡ set old place (get_or old last e) → longer ≡ get_or terms last d ∷ kept → AreFront problem terms longer new last place
+AreFront-more problem terms kept longer old new front others last place n e d wide f short before some none moved more =
+    let below : last < front = omega (arith, short, length-take-le front old (omega (arith, f.between, f.within))) in
+    let next : place + 1 ≡ others = omega (arith, f.between) in
     let term = get_or terms last d in
-    let it : get_or (terms_in terms) last (term_of d) ≡ term_of term = get_or-map term_of terms last d (term_of d) (omega (arith, f.halved.short, length-map terms term_of)) in
-    let halved : IsHalved problem (terms_in terms) (term_of term ∷ terms_in kept) last =
-    rw it at (IsHalved-more problem (terms_in terms) (terms_in kept) (length old - length kept) last (term_of d) f.halved within with_some with_none) in
-    let first : get_or old (m + last) [] ≡ condition_of problem (term_of term) = rw at (behind problem terms kept old last [] d f within) in
-    let rest : take (m + last) old ≡ conditions_before problem (terms_in kept) (terms_in terms) last = rw at before in
-    let left : length new - length longer ≡ last = omega (arith, ap length moved, ap length more, length-take-le (m + last) old (omega arith)) in
+    let long = AreFront-long problem terms kept old front others f in
+    let with_some : is_hopeless problem (take last (terms_in terms) ++ terms_in kept) ≡ false = sym (beside problem terms kept old front others last f (omega arith)) ∙ rw wide at some in
+    let with_none : is_hopeless problem (take (last + 1) (terms_in terms) ++ terms_in kept) ≡ true = sym (beside problem terms kept old front others (last + 1) f (omega arith)) ∙ rw wide at none in
+    let it : get_or (terms_in terms) last (term_of d) ≡ term_of term = get_or-map term_of terms last d (term_of d) (omega arith) in
+    let halved : IsHalved problem (terms_in terms) (term_of term ∷ terms_in kept) last = rw it at (IsHalved-more problem (terms_in terms) (terms_in kept) front last (term_of d) f.halved below with_some with_none) in
+    let first : get_or old last e ≡ condition_of problem (term_of term) = of_term problem terms kept old front others last e d f below in
+    let room : place < length old = omega (arith, f.within) in
     record {
-      halved = rw (left, more) halved;
-      those = rw (left, more) (moved ∙ rw (first, rest) refl);
-      widths = rw moved (All-first (λ marks. length marks ≡ problem.constraints) (get_or old (m + last) []) (take (m + last) old) (f.widths (m + last) [] below) (All-take (λ marks. length marks ≡ problem.constraints) (m + last) old f.widths));
+      halved = rw more halved;
+      firsts = ap (take last) moved ∙ take-set-le last old place (get_or old last e) (omega (arith, f.between)) ∙ sym (take-take last front old (omega arith)) ∙ shorter problem terms kept old front others last f (omega arith);
+      those = ap (drop place) moved ∙ drop-set old place (get_or old last e) room ∙ rw (next, first, f.those, more) refl;
+      between = omega (arith, f.between);
+      within = omega (arith, f.within, ap (λ (l : List (List Mark)). length l) moved, length-set old place (get_or old last e));
+      widths = rw moved (All-set (λ marks. length marks ≡ problem.constraints) old place (get_or old last e) (f.widths last e (omega (arith, f.between, f.within))) f.widths);
     }
-  where
-    All-first : (P : List Mark → Type 0) (x : List Mark) (xs : List (List Mark)) → P x → All P xs → All P (x ∷ xs)
-    All-first P x xs p h zero d b = p
-    All-first P x xs p h (suc k) d b = h k d (omega arith)
+
+-- the end of the list as a slice
+pub end_slice : (conditions whole : List (List Mark)) (others : ℕ) → whole ≡ conditions → take (length whole - others) (drop others whole) ≡ drop others conditions
+end_slice conditions whole others e = take_all (length whole - others) (drop others whole) (omega (arith, length-drop others whole)) ∙ ap (drop others) e
 
 -- Where no ranking keeps the conditions of the terms kept, these are the certificate.
-pub AreFront-end : (problem : Problem) (terms kept : List Term) (conditions : List (List Mark)) (n m : ℕ) → n ≡ problem.constraints → m ≡ length kept → AreFront problem terms kept conditions → no_ranking_keeps n (take m conditions) ≡ true
-    → terms_in kept ≡ certificate_of problem (terms_in terms)
-AreFront-end problem terms kept conditions n m e count f none =
-    let start : m ≡ length kept + 0 = omega arith in
-    let alone : map (condition_of problem) (terms_in kept ++ []) ≡ map (condition_of problem) (terms_in kept) = ap (map (condition_of problem)) (append-nil (terms_in kept)) in
-    let those = shorter problem terms kept conditions 0 f (omega arith) in
-    IsHalved-end problem (terms_in terms) (terms_in kept) (length conditions - length kept) f.halved
-    (ap (no_ranking_keeps problem.constraints) (sym alone ∙ sym those) ∙ rw (e, start) at none)
+pub AreFront-end : (problem : Problem) (terms kept : List Term) (conditions : List (List Mark)) (front others n : ℕ) → n ≡ problem.constraints → AreFront problem terms kept conditions front others
+    → no_ranking_keeps n (drop others conditions) ≡ true → terms_in kept ≡ certificate_of problem (terms_in terms)
+AreFront-end problem terms kept conditions front others n e f none =
+    IsHalved-end problem (terms_in terms) (terms_in kept) front f.halved (ap (no_ranking_keeps problem.constraints) (sym f.those) ∙ rw e at none)
 
 -- the certificate of terms of the problem is a contradiction
 pub certified : (problem : Problem) (terms : List Term) (kept : List theory.Term) → are_terms problem terms ≡ true → one_winner_each (terms_in terms) ≡ true → is_hopeless problem (terms_in terms) ≡ true

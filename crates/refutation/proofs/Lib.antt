@@ -3,5 +3,4 @@ pub mod Fronts
 pub mod Winning
 pub mod TermsOfPrefixes
 pub mod Implied
-pub mod Opened
 pub mod Asking

@@ -18,14 +18,3 @@ pub record AreAsked (problem : Problem) (whole : List theory.Term) (terms : List
 pub record Begins {X : Type 0} (front list : List X) : Type 0 where
   pub rest : List X
   pub whole : list ≡ front ++ rest
-
--- those of a list that have a flag
-abbrev pub flagged : {X : Type 0} → List X → List Bool → List X
-flagged [] flags = []
-flagged (x ∷ xs) [] = []
-flagged (x ∷ xs) (flag ∷ flags) = if flag then x ∷ flagged xs flags else flagged xs flags
-
--- the terms with a flag, and their conditions
-pub record AreKept (terms : List Term) (conditions : List (List Mark)) (flags : List Bool) (kept_terms : List Term) (kept_conditions : List (List Mark)) : Type 0 where
-  pub those : kept_terms ≡ flagged terms flags
-  pub each : kept_conditions ≡ flagged conditions flags

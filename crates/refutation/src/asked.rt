@@ -117,7 +117,7 @@ impl Asked {
     }
 
     /// Adds a term and its condition.
-    pub(crate) fn keep(&mut self, term: Term, condition: Condition) -> Result<(), NoMemory>
+    fn keep(&mut self, term: Term, condition: Condition) -> Result<(), NoMemory>
         ensures terms { OnOk result (self.new.terms.items ≡ self.old.terms.items ++ term ∷ []) }
         ensures conditions { OnOk result (self.new.conditions.items ≡ self.old.conditions.items ++ condition ∷ []) }
     {

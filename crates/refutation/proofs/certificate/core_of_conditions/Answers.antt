@@ -1,41 +1,36 @@
-use Rattle.std.proofs.Common.{◌∙◌, sym, ap, length}
-use Rattle.std.proofs.lemmas.List.{length-map}
-use Rattle.ot_theory.specs.Demotion.{is_open}
-use Rattle.ot_theory.specs.Languages.{condition_of}
-use Rattle.ot_theory.specs.Refutations.{certificate_of}
-use Rattle.refutation.specs.Terms.{term_of, terms_in}
-use Rattle.refutation.proofs.Opened.{AreOpened, opened}
+-- Each term that is found joins those kept; where no ranking keeps these, they are the certificate.
+use Rattle.std.proofs.Common.{◌∙◌, ◌-◌, refl, sym, ap, arith, set}
+use Rattle.refutation.specs.Terms.{terms_in}
+use Rattle.refutation.proofs.Fronts.{certified, end_slice, needed, AreFront-end, AreFront-hopeless, AreFront-more, AreFront-start}
 use Rattle.refutation.proofs.certificate.core_of_conditions.Goals as goal
-use Rattle.refutation.proofs.certificate.core_of_conditions.Goals.{After-as_slice-2}
 
-those : (c : After-as_slice-2) → AreOpened c.args.p.now c.args.terms.now c.keep_open.new.asked.terms.items c.keep_open.new.asked.conditions.items
-those c = opened c.args.p.now c.args.terms.now c.keep_open.new.asked.terms.items c.args.conditions.items c.keep_open.new.asked.conditions.items c.in_ok-flags.flags c.requires.genuine c.requires.one c.requires.conditions c.requires.widths c.requires.hopeless
-    (rw c.deref.ensures.value at c.in_ok-flags.ensures) (rw (c.deref-2.ensures.value, c.as_slice.ensures) at c.in_ok-keep_open.ensures.kept)
+pub loop-last-init : goal.loop-last-init
+loop-last-init c =
+    AreFront-start c.args.p.now c.args.terms.now c.new-kept.result.items c.args.conditions.items c.len-front.result c.len-others.result c.new-kept.ensures.items (c.len-front.ensures ∙ c.args.conditions.ok.0) (c.len-others.ensures ∙ c.args.conditions.ok.0)
+    c.requires.conditions c.requires.widths (rw c.requires.conditions at c.requires.hopeless)
 
-pub keep_open-requires-clause-long : goal.keep_open-requires-clause-long
-keep_open-requires-clause-long c = ap (λ l. length l) (c.as_slice.ensures ∙ c.in_ok-flags.ensures.opened) ∙ length-map c.deref.result.now (is_open c.in_ok-flags.ensures.levels)
-    ∙ ap (λ l. length l) (c.deref.ensures.value ∙ c.requires.conditions) ∙ length-map (terms_in c.args.terms.now) (condition_of c.args.p.now) ∙ length-map c.args.terms.now term_of
+pub last_needed-requires-clause-hopeless : goal.last_needed-requires-clause-hopeless
+last_needed-requires-clause-hopeless c =
+    rw (end_slice c.loop-last.conditions.items c.deref.result.now c.loop-last.others c.deref.ensures.value, c.deref-in-loop-last.ensures.value)
+    (AreFront-hopeless c.args.p.now c.args.terms.now c.loop-last.kept.items c.loop-last.conditions.items c.loop-last.front c.loop-last.others c.constraints-n.result c.constraints-n.ensures.value c.loop-last.invariant)
 
-pub keep_open-requires-clause-as_long : goal.keep_open-requires-clause-as_long
-keep_open-requires-clause-as_long c = ap (λ l. length l) (c.deref-2.ensures.value ∙ c.requires.conditions) ∙ length-map (terms_in c.args.terms.now) (condition_of c.args.p.now) ∙ length-map c.args.terms.now term_of
-
-pub kept_terms-requires-clause-genuine : goal.kept_terms-requires-clause-genuine
-kept_terms-requires-clause-genuine c = rw c.as_slice-2.ensures.value (those c).genuine
-
-pub kept_terms-requires-clause-one : goal.kept_terms-requires-clause-one
-kept_terms-requires-clause-one c = rw c.as_slice-2.ensures.value (those c).one
-
-pub kept_terms-requires-clause-conditions : goal.kept_terms-requires-clause-conditions
-kept_terms-requires-clause-conditions c = rw c.as_slice-2.ensures.value (those c).each
-
-pub kept_terms-requires-clause-widths : goal.kept_terms-requires-clause-widths
-kept_terms-requires-clause-widths c = (those c).widths
-
-pub kept_terms-requires-clause-hopeless : goal.kept_terms-requires-clause-hopeless
-kept_terms-requires-clause-hopeless c = (those c).hopeless
+pub loop-last-preserved : goal.loop-last-preserved
+loop-last-preserved c =
+    let conditions = c.loop-last.conditions.items in
+    let others = c.loop-last.others in
+    let rest = end_slice conditions c.deref.result.now others c.deref.ensures.value in
+    AreFront-more c.args.p.now c.args.terms.now c.loop-last.kept.items c.insert.new.self.items conditions _ c.loop-last.front others c.in-Some.last (others - 1) c.constraints-n.result _ _ c.constraints-n.ensures.value c.loop-last.invariant
+    (rw c.deref-in-loop-last.ensures.value at c.in-Some.ensures.short) refl (rw (rest, c.deref-in-loop-last.ensures.value) at c.in-Some.ensures.some) (rw (rest, c.deref-in-loop-last.ensures.value) at c.in-Some.ensures.none)
+    (ap (λ x. set conditions (others - 1) x) c.index.ensures) c.in_ok-insert.ensures.items
 
 pub returns-clause-certificate : goal.returns-clause-certificate
 returns-clause-certificate c =
-    let opened_so = opened c.args.p.now c.args.terms.now c.keep_open.new.asked.terms.items c.args.conditions.items c.keep_open.new.asked.conditions.items c.in_ok-flags.flags c.requires.genuine c.requires.one c.requires.conditions c.requires.widths c.requires.hopeless
-    (rw c.deref.ensures.value at c.in_ok-flags.ensures) (rw (c.deref-2.ensures.value, c.as_slice.ensures) at c.in_ok-keep_open.ensures.kept) in
-    ap terms_in c.from_vec.ensures ∙ c.in_ok-kept.ensures.certificate ∙ ap (λ l. certificate_of c.args.p.now (terms_in l)) c.as_slice-2.ensures.value ∙ sym opened_so.certificate
+    ap terms_in c.from_vec.ensures
+    ∙ AreFront-end c.args.p.now c.args.terms.now c.loop-last.kept.items c.loop-last.conditions.items c.loop-last.front c.loop-last.others c.constraints-n.result c.constraints-n.ensures.value c.loop-last.invariant
+    (rw (end_slice c.loop-last.conditions.items c.deref.result.now c.loop-last.others c.deref.ensures.value) at c.in_default.ensures.alone)
+
+pub returns-clause-contradiction : goal.returns-clause-contradiction
+returns-clause-contradiction c = certified c.args.p.now c.args.terms.now (terms_in c.from_vec.result) c.requires.genuine c.requires.one (rw c.requires.conditions at c.requires.hopeless) (returns-clause-certificate c)
+
+pub returns-clause-needed : goal.returns-clause-needed
+returns-clause-needed c = needed c.args.p.now c.args.terms.now (terms_in c.from_vec.result) (returns-clause-certificate c)
