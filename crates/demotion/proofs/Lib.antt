@@ -3,3 +3,4 @@ pub mod Opened
 pub mod Masked
 pub mod Stuck
 pub mod Narrowing
+pub mod Placing

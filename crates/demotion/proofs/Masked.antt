@@ -1,31 +1,27 @@
 -- Closed and blocked, by masks of the placed constraints.
-use Rattle.std.proofs.Common.{◌++◌, ◌≡◌, ◌≢◌, ◌⊎◌, ℕ, zero, suc, ◌+◌, ◌-◌, ◌^◌, ◌<◌, ◌≤◌, min, max, List, [], ◌∷◌, Bool, true, false, not, ◌&&◌, ◌||◌, ◌==◌, cond, length, take, map, get_or, slice_index, arith, refl, sym, ap, ◌∙◌, inl, inr}
+use Rattle.std.proofs.Common.{◌≡◌, ◌≢◌, ℕ, zero, suc, ◌+◌, ◌-◌, ◌^◌, ◌<◌, ◌≤◌, min, max, List, [], ◌∷◌, Bool, true, false, not, ◌&&◌, ◌||◌, ◌==◌, cond, length, take, get_or, slice_index, arith, refl, sym, ap, ◌∙◌, inl, inr}
 use Rattle.std.specs.Prelude.{bit_and, bit_or, nat_lt, All}
 use Rattle.std.specs.List.{list_any, range_with_len}
 use Rattle.std.specs.Int.{bit_at, bit_not, w64, trailing_zeros}
-use Rattle.std.proofs.lemmas.Bool.{cases_lt, cases_Bool, and_from, lt-ltb, ltb-true, ne_eqb, eq-eqb, false_from_ne_true}
+use Rattle.std.proofs.lemmas.Bool.{cases_lt, and_from, lt-ltb, ne_eqb, false_from_ne_true}
 use Rattle.std.proofs.lemmas.Bool.Decides.{eqb_tells}
 use Rattle.std.proofs.lemmas.List.Elements.{All-head, All-tail}
 use Rattle.std.proofs.lemmas.List.Folds.{list_any_more}
 use Rattle.std.proofs.lemmas.List.FromFn.{get_or-map-range_with_len}
-use Rattle.std.proofs.lemmas.List.{map_more}
 use Rattle.std.proofs.lemmas.Nat.{and_le_l}
 use Rattle.std.proofs.lemmas.Nat.Bits.{bit_at-lt, bit_at_and, bit_at_or, bit_at_not, bit_at-zero, bit_at-trailing_zeros}
 use Rattle.ot_theory.specs.declared.Mark.{Mark}
-use Rattle.ot_theory.specs.declared.Mark.TheVariants.{W, L, E}
+use Rattle.ot_theory.specs.declared.Mark.TheVariants.{W, E}
 use Rattle.ot_theory.specs.Conditions.{is_win, is_loss, mark_at}
-use Rattle.ot_theory.specs.Demotion.{is_closed, is_blocked, is_open, level_after}
+use Rattle.ot_theory.specs.Demotion.{is_closed, is_blocked, level_after}
 use Rattle.ot_theory.proofs.Demotion.{PlacedWin, closed-placed, IsRound}
 use Rattle.ot_theory.proofs.Strata.{range-any, mark_at-within, is_win-true}
 use Rattle.erc_vectors.specs.Masks.{IsMask}
-use Rattle.erc_vectors.proofs.Bits.{any-mask, bit_true}
-use Rattle.demotion.specs.Placed.{levels_of, flags_of, has_bit}
+use Rattle.erc_vectors.proofs.Bits.{bit_true}
+use Rattle.demotion.specs.Placed.{levels_of, has_bit}
 
 pub level-bit : (mask c : ℕ) → c < 64 → slice_index (levels_of mask) c ≡ bit_at mask c
 level-bit mask c within = get_or-map-range_with_len (bit_at mask) 0 64 c c 0 within (omega arith)
-
-pub flag-bit : (mask c : ℕ) → c < 64 → get_or (flags_of mask) c false ≡ has_bit mask c
-flag-bit mask c within = get_or-map-range_with_len (has_bit mask) 0 64 c c false within (omega arith)
 
 -- a condition is closed exactly where its W's and the placed constraints have one in common
 pub closed-mask : (marks : List Mark) (w placed : ℕ) → length marks ≤ 64 → w < 2 ^ 64 → IsMask is_win marks w → is_closed (levels_of placed) marks ≡ not (bit_and w placed == 0)

@@ -1,5 +1,5 @@
 -- Shorter and shorter fronts of some conditions, beside others.
-use Rattle.std.proofs.Common.{◌≡◌, ◌≢◌, ℕ, ◌+◌, ◌-◌, ◌^◌, ◌<◌, ◌≤◌, max, not, ◌&&◌, ◌||◌, List, [], ◌∷◌, ◌++◌, Bool, true, false, arith, refl, sym, ap, ◌∙◌, cond, length, take, take-take, take_all, get_or, inl, inr}
+use Rattle.std.proofs.Common.{◌≡◌, ◌≢◌, ℕ, ◌+◌, ◌-◌, ◌^◌, ◌<◌, ◌≤◌, max, not, ◌&&◌, ◌||◌, List, ◌++◌, Bool, true, false, arith, refl, sym, ap, ◌∙◌, cond, length, take, take-take, take_all, get_or, inl, inr}
 use Rattle.std.specs.Prelude.{All, bit_or}
 use Rattle.std.specs.Int.{bit_at, bit_not, w64}
 use Rattle.std.proofs.lemmas.Bool.{cases_lt}

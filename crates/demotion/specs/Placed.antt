@@ -10,6 +10,3 @@ levels_of mask = map (bit_at mask) (numbers_below 64)
 -- whether the bit of a constraint is set
 abbrev pub has_bit : ℕ → ℕ → Bool
 has_bit mask c = bit_at mask c == 1
-
-abbrev pub flags_of : ℕ → List Bool
-flags_of mask = map (has_bit mask) (numbers_below 64)

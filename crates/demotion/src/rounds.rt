@@ -2,41 +2,38 @@
 //! constraints as the bits of a mask. So a condition is closed where it has a W in common with that mask.
 
 ghost use Rattle.std.specs.Prelude.{◌≡◌, ℕ, ◌+◌, ◌<◌, ◌≤◌, true, false, not, ◌&&◌, length, slice_index, nat_lt, EachIndex, All, Contains, if◌then◌else◌};
-ghost use Rattle.std.specs.Int.{bit_at};
+ghost use Rattle.std.specs.Int.{bit_at, trailing_zeros, w64};
 ghost use Rattle.ot_theory.specs.Rankings.{count_of};
 ghost use Rattle.ot_theory.specs.Conditions.{is_loss, mark_at};
 ghost use Rattle.ot_theory.specs.Hierarchies.{IsLeastHierarchy};
-ghost use Rattle.ot_theory.specs.Demotion.{is_closed, is_blocked, level_after, open_positions, AreLeftOpen};
+ghost use Rattle.ot_theory.specs.Demotion.{is_closed, is_blocked, open_positions, AreLeftOpen};
 ghost use Rattle.ot_theory.specs.Refutations.{no_ranking_keeps};
-ghost use Rattle.ot_theory.proofs.Resuming.{IsGuarded};
 ghost use Rattle.demotion.specs.Placed.{levels_of, has_bit};
 
 use erc_vectors::{ConId, Condition, LIMIT, Mark};
 
-/// Places the constraints in rounds, the free ones of each round in the next stratum, until none that is left is free. Answers
-/// the placed constraints, as bits.
-pub(crate) fn place_in_rounds(levels: &mut [u8], set: &[Condition]) -> u64
+/// Places the constraints in rounds, the free ones of each round in the next stratum, until none that is left is free.
+pub(crate) fn place_in_rounds(levels: &mut [u8], set: &[Condition])
     requires small { length levels.old ≤ LIMIT }
     requires unplaced { All (λ level. level ≡ 0) levels.old }
     requires widths { All (λ marks. length marks ≡ length levels.old) set.now }
     ensures ranked { All (λ level. 1 ≤ level) levels.new → (no_ranking_keeps (length levels.old) set.now ≡ false) × IsLeastHierarchy (length levels.old) set.now levels.new }
     ensures stuck { Contains levels.new 0 → no_ranking_keeps (length levels.old) set.now ≡ true }
     ensures left_open { Contains levels.new 0 → AreLeftOpen (length levels.old) set.now (open_positions levels.new set.now) }
-    ensures guarded { All (IsGuarded levels.new) set.now }
-    ensures placed { (c : ℕ) → c < length levels.old → bit_at result c ≡ (if nat_lt 0 (slice_index levels.new c) then 1 else 0) }
 {
-    let mut left = levels.len();
     let mut placed = 0;
     for round in 0..levels.len() {
-        let blocked = blocked_by(placed, set);
-        let count = place_free(levels, blocked, round as u8 + 1);
-        placed |= !blocked;
-        left -= count;
-        if count == 0 || left == 0 {
-            return placed;
+        if placed == u64::MAX {
+            return;
         }
+        let blocked = blocked_by(placed, set);
+        let free = !(placed | blocked);
+        if free.trailing_zeros() as usize >= levels.len() {
+            return;
+        }
+        place(levels, free, round as u8 + 1);
+        placed |= !blocked;
     }
-    placed
 }
 
 /// Whether no ranking keeps conditions that are each of n constraints. It takes no memory, and builds no hierarchy: the placed
@@ -101,28 +98,21 @@ pub(crate) fn is_closed(levels: &[u8], condition: &Condition) -> bool
     false
 }
 
-/// Gives the free constraints that are not placed this number, and answers how many there were.
-fn place_free(levels: &mut [u8], blocked: u64, given: u8) -> usize
-    requires within { length levels.old ≤ LIMIT }
+/// Gives the constraints of these bits, which are not placed, this number. Bits that stand for no constraint are passed over.
+fn place(levels: &mut [u8], bits: u64, given: u8)
+    requires small { length levels.old ≤ LIMIT }
     requires some { 0 < given }
-    ensures each { EachIndex levels.new (λ c. slice_index levels.new c ≡ level_after (slice_index levels.old c) (has_bit blocked c) given) }
-    ensures counted { count_of 0 levels.new + result ≡ count_of 0 levels.old }
-    ensures idle { result ≡ 0 → levels.new ≡ levels.old }
+    requires free { EachIndex levels.old (λ c. has_bit bits c ≡ true → slice_index levels.old c ≡ 0) }
+    ensures fewer { trailing_zeros w64 bits < length levels.old → count_of 0 levels.new < count_of 0 levels.old }
+    ensures each { EachIndex levels.new (λ c. slice_index levels.new c ≡ (if has_bit bits c then given else slice_index levels.old c)) }
 {
-    let mut placed = 0;
-    for k in 0..levels.len() {
-        if levels[k] == 0 && !has_bit(blocked, k) {
-            levels[k] = given;
-            placed += 1;
+    let mut left = bits;
+    loop {
+        let c = left.trailing_zeros() as usize;
+        if c >= levels.len() {
+            return;
         }
+        levels[c] = given;
+        left &= !(1 << c);
     }
-    placed
-}
-
-/// Whether the bit of a constraint is set.
-fn has_bit(mask: u64, c: usize) -> bool
-    requires { c < LIMIT }
-    ensures { result ≡ has_bit mask c }
-{
-    (mask >> c) & 1 == 1
 }

@@ -10,6 +10,5 @@ abbrev pub invariant-loop-round : goal.invariant-loop-round
 invariant-loop-round l = record {
   rounds : AreRounds (length l.initial.levels) l.set l.round l.levels;
   mask : (c : ℕ) → c < length l.initial.levels → bit_at l.placed c ≡ cond (nat_lt 0 (slice_index l.levels c)) 1 0;
-  counted : count_of 0 l.levels ≤ l.left;
-  few : l.left + l.round ≤ length l.initial.levels;
+  few : count_of 0 l.levels + l.round ≤ length l.initial.levels;
 }
