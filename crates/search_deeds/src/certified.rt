@@ -1,8 +1,8 @@
 //! Cuts beside the certificates that they name.
 
-ghost use Rattle.std.specs.Prelude.{◌≡◌, ◌<◌, ℕ, [], bit_or, slice_index_or, IfOk, IfSome, IfNone, OnOk, All, length, take, true, false};
+ghost use Rattle.std.specs.Prelude.{◌≡◌, ◌<◌, ℕ, IfOk, IfSome, IfNone, OnOk, All, length, take, true, false};
 ghost use Rattle.ot_theory.specs.Languages.{refuted};
-ghost use Rattle.ot_theory.specs.Refutations.{refutes, with_certificate};
+ghost use Rattle.ot_theory.specs.Refutations.{with_certificate};
 ghost use Rattle.violation_profiles.specs.WellFormed.{IsPrefix};
 ghost use Rattle.refutation.specs.Typologies.{certificates_of, cuts_of};
 ghost use Rattle.refutation.specs.Prefixes.{class_numbers};
@@ -14,7 +14,7 @@ ghost use Rattle.search_deeds.specs.Sieved.{IsSieve};
 
 use crate::index::Index;
 use crate::ready::Ready;
-use crate::sieve::bits_of;
+use crate::sieve::{bits_of, next_within};
 use erc_vectors::{List, NoMemory};
 use ot_base::ClassId;
 use refutation::{Contradiction, Cut, Prefix, refutes};
@@ -93,6 +93,7 @@ fn name_certificate(
 
 /// The place of the first contradiction that refutes a prefix. Those that do are at these places, beside which stand the bits
 /// that they ask for, and those of the prefix are these.
+#[tactic(auto, using(crate::proofs::Passing::none_yet))]
 pub fn place_of(
     certificates: &[Contradiction],
     places: &[usize],
@@ -105,30 +106,13 @@ pub fn place_of(
     ensures some { IfSome result (λ place. (place ≡ first_refuting (certificates_of certificates.now) (class_numbers prefix.now)) × (place < length certificates.now)) }
     ensures none { IfNone result (first_refuting (certificates_of certificates.now) (class_numbers prefix.now) ≡ length certificates.now) }
 {
-    for k in 0..marks.len() {
+    let mut k = next_within(marks, 0, bits);
+    while k < marks.len() {
         let place = places[k];
-        if refutes_at(certificates, place, marks[k], prefix, bits) {
+        if refutes(&certificates[place], prefix) {
             return Some(place);
         }
+        k = next_within(marks, k + 1, bits);
     }
     None
-}
-
-/// Whether the contradiction at a place refutes a prefix. Where it asks for a bit that the prefix lacks it does not, and is not
-/// looked at.
-fn refutes_at(
-    certificates: &[Contradiction],
-    place: usize,
-    mark: u64,
-    prefix: &[ClassId],
-    bits: u64,
-) -> bool
-    requires within { place < length certificates.now }
-    requires sieve { refutes (slice_index_or (certificates_of certificates.now) place []) (class_numbers prefix.now) ≡ true → bit_or mark bits ≡ bits }
-    ensures { result ≡ refutes (slice_index_or (certificates_of certificates.now) place []) (class_numbers prefix.now) }
-{
-    if mark | bits != bits {
-        return false;
-    }
-    refutes(&certificates[place], prefix)
 }

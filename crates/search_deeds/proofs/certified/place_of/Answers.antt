@@ -1,30 +1,42 @@
-use Rattle.std.proofs.Common.{◌<◌, ◌∙◌, arith, sym, length, below_more}
+use Rattle.std.proofs.Common.{◌≡◌, ◌<◌, ◌+◌, ℕ, [], List, Bool, ◌∙◌, ap, arith, get_or, sym, length, slice_index}
 use Rattle.std.proofs.lemmas.List.{length-map}
+use Rattle.ot_theory.specs.Languages.{Term}
+use Rattle.ot_theory.specs.Refutations.{refutes}
 use Rattle.refutation.specs.Terms.{terms_in}
 use Rattle.refutation.specs.declared.contradiction.Contradiction.{Contradiction}
 use Rattle.refutation.specs.Prefixes.{class_numbers}
 use Rattle.refutation.specs.Typologies.{certificates_of}
-use Rattle.search_deeds.proofs.Choices.{first-found, first-none}
+use Rattle.search_deeds.proofs.Choices.{certificate-at, first-found, first-none}
+use Rattle.search_deeds.proofs.Passing.{NoneRefutes-one, NoneRefutes-passed}
 use Rattle.search_deeds.proofs.certified.place_of.Goals as goal
 
-pub refutes_at-requires-clause-within : goal.refutes_at-requires-clause-within
-refutes_at-requires-clause-within c =
-    omega (arith, c.requires.sieve.long, c.requires.refuting.within c.loop-k.k 0 (omega (arith, c.requires.sieve.long)), length-map c.args.certificates.now (λ (d : Contradiction). terms_in d.terms))
+told : (certificates : List Contradiction) (prefix : List ℕ) (place : ℕ) (it : Contradiction) (answer : Bool) → place < length certificates → it ≡ get_or certificates place it → answer ≡ refutes (terms_in it.terms) prefix → refutes (get_or (certificates_of certificates) place []) prefix ≡ answer
+told certificates prefix place it answer within is e =
+    ap (λ (terms : List Term). refutes terms prefix) (certificate-at certificates place it within ∙ ap (λ (d : Contradiction). terms_in d.terms) (sym is)) ∙ sym e
 
-pub refutes_at-requires-clause-sieve : goal.refutes_at-requires-clause-sieve
-refutes_at-requires-clause-sieve c = c.requires.sieve.passed c.loop-k.k (omega (arith, c.requires.sieve.long))
-
-pub loop-k-preserved : goal.loop-k-preserved
-loop-k-preserved c = below_more _ _ c.loop-k.invariant (sym c.refutes_at.ensures ∙ c.if-refutes_at.false)
-
-pub returns-then-refutes_at-clause-some : goal.returns-then-refutes_at-clause-some
-returns-then-refutes_at-clause-some c =
+pub returns-then-refutes-clause-some : goal.returns-then-refutes-clause-some
+returns-then-refutes-clause-some c =
     let certificates = c.args.certificates.now in
     let k = c.loop-k.k in
-    let within : k < length c.args.places.now = omega (arith, c.requires.sieve.long) in (
-      sym (first-found (certificates_of certificates) (class_numbers c.args.prefix.now) c.args.places.now k c.requires.refuting within c.loop-k.invariant (sym c.refutes_at.ensures ∙ c.if-refutes_at.true)),
-      omega (arith, c.requires.refuting.within k 0 within, length-map certificates (λ (d : Contradiction). terms_in d.terms)),
+    let within : k < length c.args.places.now = omega (arith, c.requires.sieve.long, c.loop-k-test.true) in
+    let place : slice_index c.args.places.now k < length certificates = omega (arith, c.requires.refuting.within k 0 within, length-map certificates (λ (d : Contradiction). terms_in d.terms)) in (
+      sym (first-found (certificates_of certificates) (class_numbers c.args.prefix.now) c.args.places.now k c.requires.refuting within c.loop-k.invariant.each
+          (told certificates (class_numbers c.args.prefix.now) (slice_index c.args.places.now k) c.index-certificates-place.result c.refutes.result place c.index-certificates-place.is c.refutes.ensures ∙ c.if-refutes.true)),
+      place,
     )
 
+pub loop-k-preserved : goal.loop-k-preserved
+loop-k-preserved c =
+    let certificates = c.args.certificates.now in
+    let k = c.loop-k.k in
+    let within : k < length c.args.places.now = omega (arith, c.requires.sieve.long, c.loop-k-test.true) in
+    let place : slice_index c.args.places.now k < length certificates = omega (arith, c.requires.refuting.within k 0 within, length-map certificates (λ (d : Contradiction). terms_in d.terms)) in
+    NoneRefutes-passed (certificates_of certificates) (class_numbers c.args.prefix.now) c.args.places.now c.args.marks.now c.args.bits (k + 1) c.next_within-k-in-loop-k.result c.requires.sieve
+    c.next_within-k-in-loop-k.ensures.onward c.next_within-k-in-loop-k.ensures.within c.next_within-k-in-loop-k.ensures.passed
+    (NoneRefutes-one (certificates_of certificates) (class_numbers c.args.prefix.now) c.args.places.now c.args.marks.now k (omega (arith, c.loop-k-test.true))
+    (told certificates (class_numbers c.args.prefix.now) (slice_index c.args.places.now k) c.index-certificates-place.result c.refutes.result place c.index-certificates-place.is c.refutes.ensures ∙ c.if-refutes.false) c.loop-k.invariant)
+
 pub returns-clause-none : goal.returns-clause-none
-returns-clause-none c = first-none (certificates_of c.args.certificates.now) (class_numbers c.args.prefix.now) c.args.places.now c.requires.refuting (λ j below. c.loop-k.invariant j (omega (arith, c.requires.sieve.long))) ∙ length-map c.args.certificates.now _
+returns-clause-none c =
+    first-none (certificates_of c.args.certificates.now) (class_numbers c.args.prefix.now) c.args.places.now c.requires.refuting (λ j below. c.loop-k.invariant.each j (omega (arith, c.requires.sieve.long, c.loop-k-test.false)))
+    ∙ length-map c.args.certificates.now _
