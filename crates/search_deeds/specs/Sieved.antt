@@ -6,7 +6,7 @@ use Rattle.ot_theory.specs.Refutations.{refutes}
 
 -- the bit of a class of an input: one of 64, which other choices may have too
 unfoldable pub choice_bit : ℕ → ℕ → ℕ
-choice_bit i a = 2 ^ ((i % 64 * 11 + a) % 64)
+choice_bit i a = 2 ^ ((i % 64 * 37 + a) % 64)
 
 -- each bit of the one word is a bit of the other
 pub record AreAmong (few many : ℕ) : Type 0 where

@@ -2,7 +2,8 @@
 //!
 //! Each choice of a class for an input has one of 64 bits. A certificate that refutes a prefix asks for none but choices of the
 //! prefix, so its bits are among those of the prefix; most of the others lack one, and are passed over by a look at one word
-//! (the filter of Bloom, Space/Time Trade-offs in Hash Coding with Allowable Errors, 1970).
+//! (the filter of Bloom, Space/Time Trade-offs in Hash Coding with Allowable Errors, 1970). Several words are looked at at a time, in
+//! the lanes of a vector.
 
 ghost use Rattle.std.specs.Prelude.{◌≡◌, ◌≢◌, ◌≤◌, ◌<◌, ◌+◌, ℕ, List, ◌∷◌, [], ◌++◌, bit_or, length, slice_index};
 ghost use Rattle.refutation.specs.Prefixes.{class_numbers};
@@ -86,9 +87,9 @@ fn before_first(marks: &[u64], from: usize, bits: u64) -> usize
     }
 }
 
-/// The bit of a class of an input.
+/// The bit of a class of an input. The bits of inputs that follow one another begin far apart, so that few classes share one.
 fn bit_of(input: usize, class: ClassId) -> u64
     ensures { result ≡ choice_bit input class.0 }
 {
-    1 << ((input % 64 * 11 + class.0 as usize) % 64)
+    1 << ((input % 64 * 37 + class.0 as usize) % 64)
 }

@@ -7,7 +7,7 @@ use Rattle.search_deeds.proofs.sieve.bit_of.Goals as goal
 pub returns : goal.returns
 unfolding choice_bit
 returns c =
-    let sum : ℕ = c.args.input % 64 * 11 + c.args.class.0 in
+    let sum : ℕ = c.args.input % 64 * 37 + c.args.class.0 in
     let small : 2 ^ (sum % 64) < 2 ^ 64 = pow-lt (mod-lt sum (omega arith)) in
     let one : 1 * 2 ^ (sum % 64) ≡ 2 ^ (sum % 64) = omega arith in
     ap (λ (x : ℕ). x % 2 ^ 64) one ∙ mod-eq_of_lt small
