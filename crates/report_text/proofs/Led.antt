@@ -1,13 +1,11 @@
 -- Numbers in a row, each behind a byte.
-use Rattle.std.proofs.Common.{subst, ◌≡◌, ℕ, zero, suc, ◌+◌, ◌<◌, List, [], ◌∷◌, ◌++◌, length, get_or, take, drop, set, map, ◌*◌, decimal, arith, refl, sym, ap, append_assoc, ◌∙◌}
-use Rattle.std.proofs.lemmas.List.{append-nil, take_more, take_more_set, length-set, length-map, map-append}
+use Rattle.std.proofs.Common.{subst, ◌≡◌, ℕ, zero, suc, ◌+◌, ◌-◌, ◌<◌, ◌≤◌, List, [], ◌∷◌, ◌++◌, length, length-append, get_or, take, drop, set, map, ◌*◌, ◌/◌, ◌%◌, decimal, arith, refl, sym, ap, append_assoc, ◌∙◌}
+use Rattle.std.proofs.lemmas.List.{append-nil, take_more, take_more_set, drop-set, length-drop, length-set, take_all}
 use Rattle.std.proofs.lemmas.List.Folds.{flat_map-map}
 use Rattle.std.proofs.lemmas.List.Concat.{flat_map-append}
 use Rattle.std.proofs.Math.Seq.{take-set-lt}
-use Rattle.std.proofs.lemmas.Fmt.{decimal_digit}
-use Rattle.ot_base.specs.declared.tableau.ClassId.{ClassId}
-use Rattle.refutation.specs.Prefixes.{class_numbers}
-use Rattle.report_text.specs.Spelling.{spaced, behind, led, prefix}
+use Rattle.std.proofs.lemmas.Fmt.{decimal_digit, decimal_step}
+use Rattle.report_text.specs.Spelling.{spaced, behind, led}
 use Rattle.report_text.proofs.Spaced.{join-cons}
 
 abbrev one : ℕ → ℕ → List ℕ
@@ -52,6 +50,27 @@ pub over_first : (first byte : ℕ) (xs bytes : List ℕ) → take (2 * length x
 over_first first byte [] bytes e = refl
 over_first first byte (x ∷ xs) bytes e = rw (take-set-lt (2 * length (x ∷ xs)) bytes 0 first (omega arith), e) refl
 
+-- two bytes written at a place
+pub take-pair : (bytes : List ℕ) (i x y : ℕ) → i + 1 < length bytes → take (i + 2) (set (set bytes i x) (i + 1) y) ≡ take i bytes ++ x ∷ y ∷ []
+take-pair bytes i x y within =
+    let first : take (i + 1) (set bytes i x) ≡ take i bytes ++ x ∷ [] = take_more_set bytes i x (omega (arith, within)) in
+    let second : take (i + 1 + 1) (set (set bytes i x) (i + 1) y) ≡ take (i + 1) (set bytes i x) ++ y ∷ [] = take_more_set (set bytes i x) (i + 1) y (rw length-set within) in
+    let next : i + 2 ≡ i + 1 + 1 = omega arith in
+    ap (λ (n : ℕ). take n (set (set bytes i x) (i + 1) y)) next ∙ second ∙ ap (λ (l : List ℕ). l ++ y ∷ []) first ∙ append_assoc (take i bytes) (x ∷ []) (y ∷ [])
+
+-- three bytes
+pub take-three : (bytes : List ℕ) (i x y z : ℕ) → i + 2 < length bytes → take (i + 3) (set (set (set bytes i x) (i + 1) y) (i + 2) z) ≡ take i bytes ++ x ∷ y ∷ z ∷ []
+take-three bytes i x y z within =
+    let two : List ℕ = set (set bytes i x) (i + 1) y in
+    let third : take (i + 2 + 1) (set two (i + 2) z) ≡ take (i + 2) two ++ z ∷ [] = take_more_set two (i + 2) z (rw (length-set, length-set) within) in
+    let next : i + 3 ≡ i + 2 + 1 = omega arith in
+    ap (λ (n : ℕ). take n (set two (i + 2) z)) next ∙ third ∙ ap (λ (l : List ℕ). l ++ z ∷ []) (take-pair bytes i x y (omega (arith, within))) ∙ append_assoc (take i bytes) (x ∷ y ∷ []) (z ∷ [])
+
+-- a number of two digits
+pub decimal-two : (n : ℕ) → 10 ≤ n → n < 100 → decimal n ≡ (48 + n / 10) ∷ (48 + n % 10) ∷ []
+decimal-two n most less =
+    decimal_step n most (omega (arith, less)) ∙ ap (λ (l : List ℕ). l ++ (48 + n % 10) ∷ []) (decimal_digit (n / 10) (omega (arith, less)))
+
 -- two bytes written at the end of what is written
 pub take-two : (bytes : List ℕ) (k x y : ℕ) → 2 * k + 1 < length bytes → take (2 * (k + 1)) (set (set bytes (2 * k) x) (2 * k + 1) y) ≡ take (2 * k) bytes ++ x ∷ y ∷ []
 take-two bytes k x y within =
@@ -85,21 +104,14 @@ pub put_all : (text whole rest : List ℕ) (before byte : ℕ) → length rest �
 put_all text whole [] before byte none so_far = sym (append-nil text) ∙ so_far
 put_all text whole (x ∷ rest) before byte none so_far = absurd (omega (arith, none))
 
--- the same of the numbers of classes
-pub put_classes : (text new whole numbers : List ℕ) (few more rest : List ClassId) (before byte : ℕ) → rest ≡ few ++ more → 0 < length few → numbers ≡ map (λ a. a + 1) (class_numbers few) → new ≡ text ++ led before byte numbers
-    → text ++ led before byte (map (λ a. a + 1) (class_numbers rest)) ≡ whole → new ++ led byte byte (map (λ a. a + 1) (class_numbers more)) ≡ whole
-put_classes text new whole numbers few more rest before byte parts some same written so_far =
-    let above : ℕ → ℕ = λ a. a + 1 in
-    let number : ClassId → ℕ = λ class. class.0 in
-    let split : map above (class_numbers rest) ≡ numbers ++ map above (class_numbers more) = rw (parts, same, map-append number few more, map-append above (map number few) (map number more)) refl in
-    let long : length numbers ≡ length few = rw same (length-map (map number few) above ∙ length-map few number) in
-    put_some text new whole numbers (map above (class_numbers more)) (map above (class_numbers rest)) before byte split (omega (arith, some, long)) written so_far
-
--- none is left of the classes of a prefix
-pub classes_put : (text new : List ℕ) (classes rest : List ClassId) (before : ℕ) → 0 < length classes → length rest ≡ 0
-    → new ++ led before 32 (map (λ a. a + 1) (class_numbers rest)) ≡ text ++ led 9 32 (map (λ a. a + 1) (class_numbers classes)) → new ≡ text ++ 9 ∷ prefix (class_numbers classes)
-classes_put text new [] rest before some none so_far = absurd (omega (arith, some))
-classes_put text new (class ∷ classes) (other ∷ rest) before some none so_far = absurd (omega (arith, none))
-classes_put text new (class ∷ classes) [] before some none so_far =
-    let numbers : List ℕ = map (λ a. a + 1) (class_numbers (class ∷ classes)) in
-    sym (append-nil new) ∙ so_far ∙ ap (λ (l : List ℕ). text ++ l) (led_spaced numbers (omega arith))
+-- a number at the end of some bytes, before one byte and behind another that is set there
+pub number-between : (text new bytes number : List ℕ) (start before after : ℕ) → start + length number ≡ 23 → 0 < start → drop start bytes ≡ number ++ after ∷ []
+    → new ≡ text ++ take (24 - (start - 1)) (drop (start - 1) (set bytes (start - 1) before)) → new ≡ text ++ before ∷ number ++ after ∷ []
+number-between text new bytes number start before after long some e put =
+    let within : start ≤ length bytes = omega (arith, length-drop start bytes, ap (λ (l : List ℕ). length l) e, length-append number (after ∷ [])) in
+    let next : start - 1 + 1 ≡ start = omega (arith, some) in
+    let whole : drop (start - 1) (set bytes (start - 1) before) ≡ before ∷ (number ++ after ∷ []) =
+    drop-set bytes (start - 1) before (omega (arith, some, within)) ∙ ap (λ (k : ℕ). before ∷ drop k bytes) next ∙ ap (λ (l : List ℕ). before ∷ l) e
+    in
+    let all : length (drop (start - 1) (set bytes (start - 1) before)) ≤ 24 - (start - 1) = omega (arith, ap (λ (l : List ℕ). length l) whole, length-append number (after ∷ []), long, some) in
+    put ∙ ap (λ (l : List ℕ). text ++ l) (take_all (24 - (start - 1)) (drop (start - 1) (set bytes (start - 1) before)) all ∙ whole) ∙ sym (append_assoc text (before ∷ number) (after ∷ []))

@@ -3,6 +3,7 @@ pub mod Grown
 pub mod Posed
 pub mod Spaced
 pub mod Led
+pub mod Kept
 pub mod Marked
 pub mod Members
 pub mod WithBoth

@@ -1,12 +1,13 @@
 -- Lists with something between each two items, one more item at a time.
-use Rattle.std.proofs.Common.{◌≡◌, ℕ, zero, suc, ◌+◌, ◌<◌, List, [], ◌∷◌, ◌++◌, length, get_or, take, map, Bool, true, false, cond, eqb, ◌==◌, slice_index, filter, decimal, flat_map, arith, refl, sym, ap, append_assoc}
+use Rattle.std.proofs.Common.{◌≡◌, ℕ, zero, suc, ◌+◌, ◌-◌, ◌*◌, ◌<◌, ◌≤◌, List, [], ◌∷◌, ◌++◌, length, get_or, min, take, drop, map, Bool, true, false, cond, eqb, ◌==◌, slice_index, filter, decimal, flat_map, arith, refl, sym, ap, append_assoc, ◌∙◌}
 use Rattle.std.specs.List.{join_with_byte, join_by, range_with_len}
-use Rattle.std.proofs.lemmas.List.{map_push, map-id, append-nil, take_more}
+use Rattle.std.proofs.lemmas.List.{map_push, map-id, append-nil, take_more, drop-take}
 use Rattle.std.proofs.lemmas.List.FromFn.{map-range_with_len_more, filter_of_map_range_with_len_more}
 use Rattle.std.proofs.lemmas.Bool.{ne_eqb}
 use Rattle.std.proofs.lemmas.List.Concat.{flat_map-append}
+use Rattle.std.proofs.lemmas.List.Folds.{flat_map-map}
 use Rattle.ot_theory.specs.Rankings.{numbers_below}
-use Rattle.report_text.specs.Spelling.{spaced}
+use Rattle.report_text.specs.Spelling.{behind, spaced, stratum}
 
 -- each item but the first has the byte before it
 pub join-cons : (c : ℕ) (x : List ℕ) (xs : List (List ℕ)) → join_with_byte c (x ∷ xs) ≡ x ++ flat_map (λ y. c ∷ y) xs
@@ -71,29 +72,51 @@ pub stratum_below-push : (levels : List ℕ) (s c : ℕ) → stratum_below level
 stratum_below-push levels s c =
     simp map-id at (filter_of_map_range_with_len_more (λ (d : ℕ). slice_index levels d == s) (λ (d : ℕ). d) 0 c c (omega arith))
 
--- They are written, and whether there are none of them is known.
-pub record IsStratumBelow (levels : List ℕ) (s c : ℕ) (first : Bool) (old new : List ℕ) : Type 0 where
-  pub text : new ≡ old ++ spaced (map (λ d. d + 1) (stratum_below levels s c))
-  pub none : first ≡ is_first (stratum_below levels s c)
+-- numbers, each behind a space, without the first space
+pub spaced-behind : (numbers : List ℕ) → drop 1 (behind 32 numbers) ≡ spaced numbers
+spaced-behind [] = refl
+spaced-behind (n ∷ numbers) = sym (join-cons 32 (decimal n) (map decimal numbers) ∙ ap (λ (l : List ℕ). decimal n ++ l) (flat_map-map (λ (y : List ℕ). 32 ∷ y) decimal numbers))
 
-first-push : (xs : List ℕ) (x : ℕ) → is_first (xs ++ x ∷ []) ≡ false
-first-push [] x = refl
-first-push (y ∷ xs) x = refl
+-- the same where they stand at the front of some bytes
+pub spaced-front : (bytes numbers : List ℕ) (end first : ℕ) → first ≡ min end 1 → end ≤ length bytes → take end bytes ≡ behind 32 numbers → take (end - first) (drop first bytes) ≡ spaced numbers
+spaced-front bytes [] zero first least within e = take-none (zero - first) first bytes (omega (arith, least)) (omega (arith, least))
+  where
+    take-none : (k first : ℕ) (bytes : List ℕ) → k ≡ 0 → first ≡ 0 → take k (drop first bytes) ≡ []
+    take-none zero first bytes none start = refl
+    take-none (suc k) first bytes none start = absurd (omega (arith, none))
+spaced-front bytes (n ∷ numbers) zero first least within e = absurd (let none : 0 ≡ suc (length (decimal n ++ behind 32 numbers)) = ap (λ (l : List ℕ). length l) e in omega (arith, none))
+spaced-front bytes numbers (suc end) first least within e =
+    let one : first ≡ 1 = omega (arith, least) in
+    let all : first + (suc end - first) ≡ suc end = omega (arith, one) in
+    sym (drop-take first (suc end - first) bytes) ∙ ap (λ (k : ℕ). drop first (take k bytes)) all ∙ ap (λ (l : List ℕ). drop first l) e ∙ ap (λ (k : ℕ). drop k (behind 32 numbers)) one ∙ spaced-behind numbers
 
-first-map : (xs : List ℕ) (f : ℕ → ℕ) → is_first (map f xs) ≡ is_first xs
-first-map [] f = refl
-first-map (x ∷ xs) f = refl
+-- They stand at the front of the bytes, each behind a space.
+pub record IsStratumBelow (levels : List ℕ) (s c end : ℕ) (bytes : List ℕ) : Type 0 where
+  pub long : length bytes ≡ 192
+  pub short : end ≤ 3 * c
+  pub written : take end bytes ≡ behind 32 (map (λ d. d + 1) (stratum_below levels s c))
 
-pub IsStratumBelow-in : (levels : List ℕ) (s c : ℕ) (first : Bool) (old new next : List ℕ) → eqb (get_or levels c 0) s ≡ true → next ≡ new ++ (cond first [] (32 ∷ []) ++ decimal (c + 1)) → IsStratumBelow levels s c first old new → IsStratumBelow levels s (c + 1) false old next
-IsStratumBelow-in levels s c first old new next here step below =
+pub IsStratumBelow-in : (levels : List ℕ) (s c end next : ℕ) (bytes new : List ℕ) → eqb (get_or levels c 0) s ≡ true → length new ≡ length bytes → next ≤ end + 3 → take next new ≡ take end bytes ++ 32 ∷ decimal (c + 1)
+    → IsStratumBelow levels s c end bytes → IsStratumBelow levels s (c + 1) next new
+IsStratumBelow-in levels s c end next bytes new here long short step below =
     let more : stratum_below levels s (c + 1) ≡ stratum_below levels s c ++ c ∷ [] = rw here at (stratum_below-push levels s c) in
     let front : List ℕ = map (λ d. d + 1) (stratum_below levels s c) in
+    let one : ℕ → List ℕ = λ n. 32 ∷ decimal n in
     record {
-      text = rw (more, map_push (λ d. d + 1) (stratum_below levels s c) c, spaced-push front (c + 1), first-map (stratum_below levels s c) (λ d. d + 1), step, below.text, below.none) (simp append_assoc);
-      none = rw (more, first-push (stratum_below levels s c) c) refl;
+      long = long ∙ below.long;
+      short = omega (arith, short, below.short);
+      written = step ∙ sym (
+          ap (λ (l : List ℕ). behind 32 (map (λ d. d + 1) l)) more ∙ ap (λ (l : List ℕ). behind 32 l) (map_push (λ d. d + 1) (stratum_below levels s c) c) ∙ flat_map-append one front ((c + 1) ∷ [])
+          ∙ ap (λ (l : List ℕ). behind 32 front ++ l) (append-nil (one (c + 1))) ∙ ap (λ (l : List ℕ). l ++ one (c + 1)) (sym below.written));
     }
 
-pub IsStratumBelow-out : (levels : List ℕ) (s c : ℕ) (first : Bool) (old new : List ℕ) → eqb (get_or levels c 0) s ≡ false → IsStratumBelow levels s c first old new → IsStratumBelow levels s (c + 1) first old new
-IsStratumBelow-out levels s c first old new other below =
+pub IsStratumBelow-out : (levels : List ℕ) (s c end : ℕ) (bytes : List ℕ) → eqb (get_or levels c 0) s ≡ false → IsStratumBelow levels s c end bytes → IsStratumBelow levels s (c + 1) end bytes
+IsStratumBelow-out levels s c end bytes other below =
     let same : stratum_below levels s (c + 1) ≡ stratum_below levels s c = rw (other, append-nil) at (stratum_below-push levels s c) in
-    record { text = rw same below.text; none = rw same below.none }
+    record { long = below.long; short = omega (arith, below.short); written = rw same below.written }
+
+-- all of them, without the first space
+pub stratum-front : (levels : List ℕ) (s c end first : ℕ) (bytes : List ℕ) → c ≡ length levels → end ≤ 192 → first ≡ min end 1 → IsStratumBelow levels s c end bytes → take (end - first) (drop first bytes) ≡ spaced (stratum levels s)
+stratum-front levels s c end first bytes all room least below =
+    spaced-front bytes (map (λ d. d + 1) (stratum_below levels s c)) end first least (omega (arith, below.long, room)) below.written
+    ∙ ap (λ (k : ℕ). spaced (map (λ d. d + 1) (stratum_below levels s k))) all

@@ -35,6 +35,10 @@ prefix (a ∷ classes) = spaced (map (λ b. b + 1) (a ∷ classes))
 abbrev pub behind : ℕ → List ℕ → List ℕ
 behind byte numbers = flat_map (λ n. byte ∷ decimal n) numbers
 
+-- class numbers by input, counted from 1, each behind a space
+abbrev pub each_behind_space : List ℕ → List ℕ
+each_behind_space classes = behind 32 (map (λ a. a + 1) classes)
+
 -- numbers, the first behind one byte and each other behind another
 abbrev pub led : ℕ → ℕ → List ℕ → List ℕ
 led first byte [] = []

@@ -1,12 +1,12 @@
 //! The strata of a hierarchy, in one field or a line for each.
 
-ghost use Rattle.std.specs.Prelude.{◌≡◌, ◌∷◌, [], ◌++◌, length, slice_index_or, flat_map, map, OnOk};
+ghost use Rattle.std.specs.Prelude.{◌≡◌, ◌≤◌, ◌<◌, ◌+◌, ◌∷◌, [], ◌++◌, decimal, length, slice_index_or, take, flat_map, map, OnOk};
 ghost use Rattle.ot_theory.specs.Hierarchies.{in_stratum};
 ghost use Rattle.report_text.specs.Spelling.{spaced, stratum, hierarchy};
 ghost use Rattle.report_text.specs.Reports as reports;
 
 use crate::text::Text;
-use erc_vectors::{ConId, NoMemory, Strata};
+use erc_vectors::{ConId, LIMIT, NoMemory, Strata};
 use ot_base::Label;
 
 /// The strata from the highest on, with a bar between each two. In each stand the numbers of its constraints, ascending.
@@ -74,16 +74,34 @@ fn put_abbreviations(
     Ok(())
 }
 
-/// The constraints of a stratum, ascending, with a space between each two.
+/// The constraints of a stratum, ascending, with a space between each two. They are put together and written at once.
 fn put_stratum(text: &mut Text, strata: &Strata, level: u8) -> Result<(), NoMemory>
     ensures { OnOk result (text.new ≡ text.old ++ spaced (stratum strata.now level)) }
 {
-    let mut first = true;
+    let mut bytes = [0; 3 * LIMIT];
+    let mut end = 0;
     for c in 0..strata.width() {
         if strata.level(ConId(c as u16)) == level {
-            text.spaced_number(first, c + 1)?;
-            first = false;
+            end = number_at(&mut bytes, end, c as u8 + 1);
         }
     }
-    Ok(())
+    text.put(&bytes[end.min(1)..end])
+}
+
+/// Writes a space and a number of at most two digits behind the first bytes. The answer is where it ends.
+fn number_at(bytes: &mut [u8], end: usize, n: u8) -> usize
+    requires room { end + 3 ≤ length bytes.old }
+    requires small { n < 100 }
+    ensures long { length bytes.new ≡ length bytes.old }
+    ensures ends { result ≤ end + 3 }
+    ensures written { take result bytes.new ≡ take end bytes.old ++ 32 ∷ decimal n }
+{
+    bytes[end] = b' ';
+    if n < 10 {
+        bytes[end + 1] = b'0' + n;
+        return end + 2;
+    }
+    bytes[end + 1] = b'0' + n / 10;
+    bytes[end + 2] = b'0' + n % 10;
+    end + 3
 }

@@ -20,6 +20,7 @@ mod head;
 mod hierarchy;
 mod laws;
 mod numbers;
+mod prefixes;
 mod rank;
 mod tableaux;
 mod terms;

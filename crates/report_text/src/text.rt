@@ -1,10 +1,10 @@
 //! A text that grows at its end, by bytes, numbers and fields.
 
-ghost use Rattle.std.specs.Prelude.{◌≡◌, [], ◌∷◌, ◌++◌, OnOk, decimal, if◌then◌else◌};
+ghost use Rattle.std.specs.Prelude.{◌≡◌, [], ◌∷◌, ◌++◌, OnOk, decimal, take, if◌then◌else◌};
 ghost use Rattle.report_text.specs.Spelling.{line, output};
 
 use erc_vectors::NoMemory;
-use itoa::Buffer;
+use itoa::{Buffer, write_digits};
 use ot_base::Label;
 use std::alloc::Global;
 use std::marker::Model;
@@ -49,6 +49,20 @@ impl Text {
         Ok(())
     }
 
+    /// The bytes of the text.
+    pub(crate) fn bytes(&self) -> &[u8]
+        ensures { result.now ≡ self.now }
+    {
+        self.bytes.as_slice()
+    }
+
+    /// Without the bytes behind the first ones, which are so many.
+    pub(crate) fn cut_back(&mut self, count: usize)
+        ensures { self.new ≡ take count self.old }
+    {
+        self.bytes.truncate(count);
+    }
+
     /// One byte.
     pub(crate) fn byte(&mut self, byte: u8) -> Result<(), NoMemory>
         ensures { OnOk result (self.new ≡ self.old ++ byte ∷ []) }
@@ -65,6 +79,24 @@ impl Text {
             return self.byte(b'0' + n as u8);
         }
         self.long_number(n)
+    }
+
+    /// A number behind a byte, and before another.
+    pub(crate) fn number_between(&mut self, before: u8, n: usize, after: u8) -> Result<(), NoMemory>
+        ensures { OnOk result (self.new ≡ self.old ++ before ∷ decimal n ++ after ∷ []) }
+    {
+        let mut bytes = [after; 24];
+        let start = write_digits(n as u64, &mut bytes, 23);
+        bytes[start - 1] = before;
+        self.put(&bytes[start - 1..])
+    }
+
+    /// The beginning of a line: a word, its number, and a tab behind each.
+    pub(crate) fn line_number(&mut self, word: &[u8], n: usize) -> Result<(), NoMemory>
+        ensures { OnOk result (self.new ≡ self.old ++ word.now ++ 9 ∷ decimal n ++ 9 ∷ []) }
+    {
+        self.put(word)?;
+        self.number_between(b'\t', n, b'\t')
     }
 
     /// The same for a number that mostly has more than one digit.

@@ -1,17 +1,16 @@
 //! The report of a factorial typology: its languages, and what shows that the other choices are none.
 
-ghost use Rattle.std.specs.Prelude.{◌≡◌, ◌+◌, ◌∷◌, ◌++◌, ◌<◌, ◌≤◌, length, map, take, All, IsTrue, IfOk, OnOk};
+ghost use Rattle.std.specs.Prelude.{◌≡◌, ◌-◌, ◌^◌, ◌++◌, ◌<◌, length, All, IsTrue, IfOk, OnOk};
 ghost use Rattle.ot_base.specs.Tableaus.{problem_of};
 ghost use Rattle.refutation.specs.Prefixes.{class_numbers};
 ghost use Rattle.refutation.specs.Terms.{are_terms, terms_in};
 ghost use Rattle.refutation.specs.Typologies.{found_of, cuts_of, certificates_of};
-ghost use Rattle.report_text.specs.Spelling.{prefix};
-ghost use Rattle.report_text.specs.declared.numbers.TheConstants.{FEW};
+ghost use Rattle.report_text.specs.Spelling.{each_behind_space};
 ghost use Rattle.report_text.specs.Reports as reports;
 
 use crate::head::put_head;
 use crate::hierarchy::put_hierarchy;
-use crate::numbers::{FEW, put_few};
+use crate::prefixes::put_prefix;
 use crate::terms::put_fused_terms;
 use crate::text::Text;
 use erc_vectors::{NoMemory, Strata};
@@ -41,36 +40,43 @@ pub fn typology_text(
 {
     let mut text = Text::new(alloc);
     put_head(&mut text, b"typology", t, p)?;
-    put_languages(&mut text, y.languages.as_slice())?;
+    put_languages(alloc, &mut text, y.languages.as_slice())?;
     put_certificates(&mut text, p, y.certificates.as_slice())?;
-    put_cuts(&mut text, y.certificates.len(), y.cuts.as_slice())?;
+    put_cuts(alloc, &mut text, y.certificates.len(), y.cuts.as_slice())?;
     text.put(b"end\n")?;
     Ok(text.into_label())
 }
 
 /// The number of languages, and a line for each.
-fn put_languages(text: &mut Text, languages: &[Language]) -> Result<(), NoMemory>
+fn put_languages(alloc: Global, text: &mut Text, languages: &[Language]) -> Result<(), NoMemory>
     ensures { OnOk result (text.new ≡ text.old ++ reports.language_lines (found_of languages.now)) }
 {
     text.count_line(b"languages", languages.len())?;
+    let mut kept = Text::new(alloc);
+    let mut before: &[ClassId] = &[];
     for (k, language) in languages.iter().enumerate() {
-        put_language(text, k + 1, language.choice.as_slice(), &language.strata)?;
+        let choice = language.choice.as_slice();
+        put_language(text, &mut kept, before, k + 1, choice, &language.strata)?;
+        before = choice;
     }
     Ok(())
 }
 
-/// The line of a language: its number, its classes by input, and its hierarchy.
+/// The line of a language: its number, its classes by input, of which the text of those before is kept, and its hierarchy.
 fn put_language(
     text: &mut Text,
+    kept: &mut Text,
+    before: &[ClassId],
     number: usize,
     choice: &[ClassId],
     strata: &Strata,
 ) -> Result<(), NoMemory>
-    ensures { OnOk result (text.new ≡ text.old ++ reports.language_line number (class_numbers choice.now, strata.now)) }
+    requires { kept.old ≡ each_behind_space (class_numbers before.now) }
+    ensures written { OnOk result (text.new ≡ text.old ++ reports.language_line number (class_numbers choice.now, strata.now)) }
+    ensures kept { OnOk result (kept.new ≡ each_behind_space (class_numbers choice.now)) }
 {
-    text.put(b"language")?;
-    text.number_field(number)?;
-    put_prefix(text, choice)?;
+    text.line_number(b"language", number)?;
+    put_prefix(text, kept, before, choice)?;
     text.put(b"\t")?;
     put_hierarchy(text, strata)?;
     text.end_line()
@@ -111,57 +117,43 @@ fn put_certificate(
 }
 
 /// The number of cuts, each of which names one of so many certificates, and a line for each.
-fn put_cuts(text: &mut Text, certificates: usize, cuts: &[Cut]) -> Result<(), NoMemory>
+fn put_cuts(
+    alloc: Global,
+    text: &mut Text,
+    certificates: usize,
+    cuts: &[Cut],
+) -> Result<(), NoMemory>
     requires { All (λ cut. cut.certificate < certificates) cuts.now }
     ensures { OnOk result (text.new ≡ text.old ++ reports.cut_lines (cuts_of cuts.now)) }
 {
     text.count_line(b"cuts", cuts.len())?;
+    let mut kept = Text::new(alloc);
+    let mut before: &[ClassId] = &[];
     for (k, cut) in cuts.iter().enumerate() {
-        put_cut(text, k + 1, certificates, cut)?;
+        prove!(cut.certificate < certificates);
+        let prefix = cut.prefix.as_slice();
+        put_cut(text, &mut kept, before, k + 1, prefix, cut.certificate)?;
+        before = prefix;
     }
     Ok(())
 }
 
-/// The line of a cut: its number, its classes by input, and the number of its certificate, one of so many.
-fn put_cut(text: &mut Text, number: usize, certificates: usize, cut: &Cut) -> Result<(), NoMemory>
-    requires { cut.now.certificate < certificates }
-    ensures { OnOk result (text.new ≡ text.old ++ reports.cut_line number (cut.now.prefix, cut.now.certificate)) }
+/// The line of a cut: its number, its classes by input, of which the text of those before is kept, and the place of its
+/// certificate, counted from 1.
+fn put_cut(
+    text: &mut Text,
+    kept: &mut Text,
+    before: &[ClassId],
+    number: usize,
+    prefix: &[ClassId],
+    certificate: usize,
+) -> Result<(), NoMemory>
+    requires kept { kept.old ≡ each_behind_space (class_numbers before.now) }
+    requires counted { certificate < 2 ^ 64 - 1 }
+    ensures written { OnOk result (text.new ≡ text.old ++ reports.cut_line number (class_numbers prefix.now, certificate)) }
+    ensures kept { OnOk result (kept.new ≡ each_behind_space (class_numbers prefix.now)) }
 {
-    prove!(cut.certificate < certificates);
-    text.put(b"cut")?;
-    text.number_field(number)?;
-    put_prefix(text, cut.prefix.as_slice())?;
-    text.number_field(cut.certificate + 1)?;
-    text.end_line()
-}
-
-/// The numbers of the classes, by input, as a field, and a dash where there are none.
-#[tactic(auto, using(crate::proofs::Led::put_classes, crate::proofs::Led::classes_put))]
-fn put_prefix(text: &mut Text, classes: &[ClassId]) -> Result<(), NoMemory>
-    ensures { OnOk result (text.new ≡ text.old ++ 9 ∷ prefix (class_numbers classes.now)) }
-{
-    if classes.is_empty() {
-        return text.field(b"-");
-    }
-    let mut before = b'\t';
-    let mut rest = classes;
-    while !rest.is_empty() {
-        let (few, more) = rest.split_at(rest.len().min(FEW));
-        put_few(text, before, b' ', &numbers_of(few)[..few.len()])?;
-        before = b' ';
-        rest = more;
-    }
-    Ok(())
-}
-
-/// The numbers of a few classes, counted from 1.
-fn numbers_of(few: &[ClassId]) -> [u32; FEW]
-    requires { length few.now ≤ FEW }
-    ensures { take (length few.now) result ≡ map (λ a. a + 1) (class_numbers few.now) }
-{
-    let mut numbers = [0; FEW];
-    for (k, class) in few.iter().enumerate() {
-        numbers[k] = class.0 as u32 + 1;
-    }
-    numbers
+    text.line_number(b"cut", number)?;
+    put_prefix(text, kept, before, prefix)?;
+    text.number_between(b'\t', certificate + 1, b'\n')
 }

@@ -1,20 +1,21 @@
 -- What the loops count: the cuts that name each certificate, and how often they are judged.
-use Rattle.std.proofs.Common.{◌≡◌, ◌≢◌, ℕ, zero, suc, ◌+◌, ◌-◌, ◌^◌, ◌<◌, ◌≤◌, List, [], ◌∷◌, ◌++◌, Bool, ◌==◌, arith, refl, sym, ◌∙◌, ap, subst, cond, inl, inr, length, length-append, append_assoc, map, flat_map, get_or, min, set, take, replicate}
+use Rattle.std.proofs.Common.{◌≡◌, ◌≢◌, ℕ, zero, suc, ◌+◌, ◌-◌, ◌*◌, ◌^◌, ◌<◌, ◌≤◌, ◌⊎◌, List, [], ◌∷◌, ◌++◌, Bool, ◌==◌, arith, refl, sym, ◌∙◌, ap, subst, cond, inl, inr, length, length-append, append_assoc, map, flat_map, get_or, min, set, take, replicate}
 use Rattle.std.specs.Prelude.{sum_by}
 use Rattle.std.specs.List.{filter, range_with_len}
 use Rattle.std.proofs.lemmas.Bool.{cases_Bool, cases_eq, eq-eqb, ne_eqb}
-use Rattle.std.proofs.lemmas.List.{append-nil, ext_get_or, get_or-map, get_or-set_other, get_or-set_same, length-map, length-set, length-take-le, map-append, map-id, map-set, take_more}
+use Rattle.std.proofs.lemmas.List.{append-nil, ext_get_or, get_or-map, get_or-replicate, get_or-set_other, get_or-set_same, length-map, length-replicate, length-set, length-take-le, map-append, map-id, map-set, take_more}
 use Rattle.std.proofs.lemmas.List.Concat.{flat_map-append}
 use Rattle.std.proofs.lemmas.List.Elements.{filter-append}
 use Rattle.std.proofs.lemmas.List.FromFn.{get_or-map-range_with_len, length-map-range_with_len, map-range_with_len_more}
-use Rattle.std.proofs.lemmas.List.Sums.{sum_by-append}
+use Rattle.std.proofs.lemmas.List.Sums.{sum_by-append, sum_by-cons}
 use Rattle.ot_theory.specs.Rankings.{numbers_below}
 use Rattle.refutation.specs.Typologies.{cuts_of}
 use Rattle.refutation.specs.declared.typology.Cut.{Cut}
-use Rattle.typology_core.specs.Judged.{IsCount, learns_of, named_of}
+use Rattle.typology_core.specs.Judged.{AreTallies, IsCount, IsTally, learns_of, named_of}
 use Rattle.typology_core.specs.Learned.{all_named, named_by, naming, of_length, times_judged, total_of, with_one}
 use Rattle.typology_core.specs.declared.learning.Count.{Count}
 use Rattle.typology_core.specs.declared.learning.Named.{Named}
+use Rattle.typology_core.specs.declared.learning.Tally.{Tally}
 
 -- ---- the cuts that name each certificate
 same-all : (s n : ℕ) → replicate n (let none : ℕ × ℕ = (0, 0) in none) ≡ map (λ j. named_by (naming [] j)) (range_with_len s n)
@@ -80,14 +81,96 @@ other-length n xs k d below e =
     ap (λ (l : List Named). of_length n (named_of l)) (take_more xs k d below) ∙ told-more n (take k xs) x
     ∙ ap (λ (b : Bool). of_length n (named_of (take k xs)) ++ cond b ((x.length, x.cuts) ∷ []) []) (ne_eqb x.length n e) ∙ append-nil (of_length n (named_of (take k xs)))
 
+here-length : (n : ℕ) (xs : List Named) (k : ℕ) (d : Named) → k < length xs → (get_or xs k d).length ≡ n → of_length n (named_of (take (k + 1) xs)) ≡ of_length n (named_of (take k xs)) ++ ((get_or xs k d).length, (get_or xs k d).cuts) ∷ []
+here-length n xs k d below e =
+    let x : Named = get_or xs k d in
+    ap (λ (l : List Named). of_length n (named_of l)) (take_more xs k d below) ∙ told-more n (take k xs) x
+    ∙ ap (λ (b : Bool). of_length n (named_of (take k xs)) ++ cond b ((x.length, x.cuts) ∷ []) []) (eq-eqb x.length n e)
+
 pub learns-here : (n : ℕ) (xs : List Named) (k : ℕ) (d : Named) → k < length xs → (get_or xs k d).length ≡ n → learns_of n (take (k + 1) xs) ≡ learns_of n (take k xs) ++ (get_or xs k d).cuts ∷ []
 learns-here n xs k d below e =
     let x : Named = get_or xs k d in
-    ap (map (λ (c : ℕ × ℕ). c.1)) (ap (λ (l : List Named). of_length n (named_of l)) (take_more xs k d below) ∙ told-more n (take k xs) x ∙ ap (λ (b : Bool). of_length n (named_of (take k xs)) ++ cond b ((x.length, x.cuts) ∷ []) []) (eq-eqb x.length n e))
+    ap (map (λ (c : ℕ × ℕ). c.1)) (here-length n xs k d below e)
     ∙ map-append (λ (c : ℕ × ℕ). c.1) (of_length n (named_of (take k xs))) ((x.length, x.cuts) ∷ [])
 
 pub learns-other : (n : ℕ) (xs : List Named) (k : ℕ) (d : Named) → k < length xs → (get_or xs k d).length ≢ n → learns_of n (take (k + 1) xs) ≡ learns_of n (take k xs)
 learns-other n xs k d below e = ap (map (λ (c : ℕ × ℕ). c.1)) (other-length n xs k d below e)
+
+-- ---- the tally of each length
+tally-here : (n : ℕ) (xs : List Named) (k : ℕ) (d : Named) (tally next : Tally) → k < length xs → (get_or xs k d).length ≡ n → next.certificates ≡ tally.certificates + 1 → next.cuts ≡ tally.cuts + (get_or xs k d).cuts
+    → IsTally n (named_of (take k xs)) tally → IsTally n (named_of (take (k + 1) xs)) next
+tally-here n xs k d tally next below e certificates cuts h =
+    let before = of_length n (named_of (take k xs)) in
+    let here : ℕ × ℕ = ((get_or xs k d).length, (get_or xs k d).cuts) in
+    let more = here-length n xs k d below e in
+    let long = length-append before (here ∷ []) in
+    let total = sum_by-append (λ (c : ℕ × ℕ). c.1) before (here ∷ []) in
+    record {
+      certificates = omega (arith, certificates, h.certificates, long, ap (λ (l : List (ℕ × ℕ)). length l) more);
+      cuts = omega (arith, cuts, h.cuts, total, ap total_of more);
+    }
+
+tally-other : (n : ℕ) (xs : List Named) (k : ℕ) (d : Named) (tally : Tally) → k < length xs → (get_or xs k d).length ≢ n → IsTally n (named_of (take k xs)) tally → IsTally n (named_of (take (k + 1) xs)) tally
+tally-other n xs k d tally below e h =
+    let same = other-length n xs k d below e in
+    record { certificates = h.certificates ∙ ap (λ (l : List (ℕ × ℕ)). length l) (sym same); cuts = h.cuts ∙ ap total_of (sym same) }
+
+-- as many as were seen are in no tally more
+pub record AreFew (longest seen : ℕ) (tallies : List Tally) : Type 0 where
+  pub certificates : (n : ℕ) (d : Tally) → n ≤ longest → (get_or tallies n d).certificates ≤ seen
+  pub cuts : (n : ℕ) (d : Tally) → n ≤ longest → (get_or tallies n d).cuts ≤ 18446744073709551615 * seen
+
+abbrev pub empty : Tally
+empty = record { certificates = 0; cuts = 0 }
+
+pub tallies-none : (longest : ℕ) → AreTallies longest [] (replicate (longest + 1) empty) × AreFew longest 0 (replicate (longest + 1) empty)
+tallies-none longest = (
+  record { width = length-replicate (longest + 1) empty; each = λ n d within. subst (IsTally n []) (sym (at n d within)) (record { certificates = refl; cuts = refl }) },
+  record { certificates = λ n d within. omega (arith, ap (λ (t : Tally). t.certificates) (at n d within)); cuts = λ n d within. omega (arith, ap (λ (t : Tally). t.cuts) (at n d within)) },
+)
+  where
+    at : (n : ℕ) (d : Tally) → n ≤ longest → get_or (replicate (longest + 1) empty) n d ≡ empty
+    at n d within = get_or-replicate (longest + 1) n empty d (omega (arith, within))
+
+pub tallies-here : (longest k : ℕ) (xs : List Named) (d : Named) (e next : Tally) (tallies : List Tally) → k < length xs → (get_or xs k d).length ≤ longest
+    → next.certificates ≡ (get_or tallies (get_or xs k d).length e).certificates + 1 → next.cuts ≡ (get_or tallies (get_or xs k d).length e).cuts + (get_or xs k d).cuts → next.cuts ≤ (get_or tallies (get_or xs k d).length e).cuts + 18446744073709551615
+    → AreTallies longest (named_of (take k xs)) tallies × AreFew longest k tallies
+    → AreTallies longest (named_of (take (k + 1) xs)) (set tallies (get_or xs k d).length next) × AreFew longest (k + 1) (set tallies (get_or xs k d).length next)
+tallies-here longest k xs d e next tallies below within certificates cuts small (are, few) = (
+  record { width = length-set tallies j next ∙ are.width; each = λ n f low. each n f low (cases_eq j n) },
+  record { certificates = λ n f low. few-certificates n f low (cases_eq j n); cuts = λ n f low. few-cuts n f low (cases_eq j n) },
+)
+  where
+    j : ℕ
+    j = (get_or xs k d).length
+
+    same : (n : ℕ) (f : Tally) → n ≤ longest → j ≡ n → get_or (set tallies j next) n f ≡ next
+    same n f low eq = ap (λ (i : ℕ). get_or (set tallies j next) i f) (sym eq) ∙ get_or-set_same tallies j next f (omega (arith, within, are.width))
+
+    other : (n : ℕ) (f : Tally) → j ≢ n → get_or (set tallies j next) n f ≡ get_or tallies n f
+    other n f ne = get_or-set_other tallies j n next f (λ eq. ne (sym eq))
+
+    each : (n : ℕ) (f : Tally) → n ≤ longest → (j ≡ n) ⊎ (j ≢ n) → IsTally n (named_of (take (k + 1) xs)) (get_or (set tallies j next) n f)
+    each n f low (inl eq) =
+        subst (IsTally n (named_of (take (k + 1) xs))) (sym (same n f low eq))
+        (tally-here n xs k d (get_or tallies n e) next below eq (certificates ∙ ap (λ (i : ℕ). (get_or tallies i e).certificates + 1) eq) (cuts ∙ ap (λ (i : ℕ). (get_or tallies i e).cuts + (get_or xs k d).cuts) eq) (are.each n e low))
+    each n f low (inr ne) = subst (IsTally n (named_of (take (k + 1) xs))) (sym (other n f ne)) (tally-other n xs k d (get_or tallies n f) below ne (are.each n f low))
+
+    few-certificates : (n : ℕ) (f : Tally) → n ≤ longest → (j ≡ n) ⊎ (j ≢ n) → (get_or (set tallies j next) n f).certificates ≤ k + 1
+    few-certificates n f low (inl eq) = omega (arith, ap (λ (t : Tally). t.certificates) (same n f low eq), certificates, few.certificates j e within)
+    few-certificates n f low (inr ne) = omega (arith, ap (λ (t : Tally). t.certificates) (other n f ne), few.certificates n f low)
+
+    few-cuts : (n : ℕ) (f : Tally) → n ≤ longest → (j ≡ n) ⊎ (j ≢ n) → (get_or (set tallies j next) n f).cuts ≤ 18446744073709551615 * (k + 1)
+    few-cuts n f low (inl eq) = omega (arith, ap (λ (t : Tally). t.cuts) (same n f low eq), few.cuts j e within, small)
+    few-cuts n f low (inr ne) = omega (arith, ap (λ (t : Tally). t.cuts) (other n f ne), few.cuts n f low)
+
+-- a certificate of cuts longer than those tallied
+pub tallies-past : (longest k : ℕ) (xs : List Named) (d : Named) (tallies : List Tally) → k < length xs → longest < (get_or xs k d).length
+    → AreTallies longest (named_of (take k xs)) tallies × AreFew longest k tallies → AreTallies longest (named_of (take (k + 1) xs)) tallies × AreFew longest (k + 1) tallies
+tallies-past longest k xs d tallies below past (are, few) = (
+  record { width = are.width; each = λ n f low. tally-other n xs k d (get_or tallies n f) below (λ eq. omega (arith, past, low, eq)) (are.each n f low) },
+  record { certificates = λ n f low. omega (arith, few.certificates n f low); cuts = λ n f low. omega (arith, few.cuts n f low) },
+)
 
 -- ---- how often they are judged
 judged-free : (places : ℕ) (times : List ℕ) (t : ℕ) → length times < places → times_judged places (times ++ t ∷ []) ≡ times_judged places times + 1
@@ -117,6 +200,42 @@ count-free held places before t count next some left learns h =
     some-left : (n : ℕ) → n ≢ 0 → 0 < n
     some-left zero h = absurd (h refl)
     some-left (suc n) h = omega arith
+
+-- no place is left for these
+judged-spent : (places : ℕ) (before : List ℕ) (named : List (ℕ × ℕ)) → places ≤ length before → times_judged places (before ++ map (λ certificate. certificate.1) named) ≡ times_judged places before + total_of named
+judged-spent zero [] [] spent = refl
+judged-spent zero [] (certificate ∷ named) spent = let rest = judged-spent zero [] named spent in omega (arith, rest, sum_by-cons (λ (c : ℕ × ℕ). c.1) certificate named)
+judged-spent zero (x ∷ before) named spent = let rest = judged-spent zero before named (omega arith) in omega (arith, rest)
+judged-spent (suc places) [] named spent = absurd (omega (arith, spent))
+judged-spent (suc places) (x ∷ before) named spent = let rest = judged-spent places before named (omega (arith, spent)) in omega (arith, rest)
+
+-- a place is left for each of these
+judged-placed : (places : ℕ) (before times : List ℕ) → length before + length times ≤ places → times_judged places (before ++ times) ≡ times_judged places before + length times
+judged-placed places [] [] room = refl
+judged-placed zero [] (t ∷ times) room = absurd (omega (arith, room))
+judged-placed (suc places) [] (t ∷ times) room = let rest = judged-placed places [] times (omega (arith, room)) in omega (arith, rest)
+judged-placed zero (x ∷ before) times room = absurd (omega (arith, room))
+judged-placed (suc places) (x ∷ before) times room = let rest = judged-placed places before times (omega (arith, room)) in omega (arith, rest)
+
+pub count-spent : (held places : ℕ) (before : List ℕ) (n : ℕ) (named : List Named) (tally : Tally) (count next : Count) → count.left ≡ 0 → next.left ≡ 0 → next.learns ≡ min (count.learns + min tally.cuts (2 ^ 64 - 1)) (2 ^ 64 - 1)
+    → IsTally n (named_of named) tally → IsCount held places before count → IsCount held places (before ++ learns_of n named) next
+count-spent held places before n named tally count next none left learns told h =
+    let spent = judged-spent places before (of_length n (named_of named)) (omega (arith, none, h.left)) in
+    let long = length-append before (learns_of n named) in
+    record { learns = omega (arith, spent, learns, h.learns, told.cuts); left = omega (arith, left, none, h.left, long) }
+
+pub count-placed : (held places : ℕ) (before : List ℕ) (n : ℕ) (named : List Named) (tally : Tally) (count next : Count) → count.left ≢ 0 → tally.certificates ≤ count.left → next.left ≡ count.left - tally.certificates
+    → next.learns ≡ min (count.learns + tally.certificates) (2 ^ 64 - 1) → IsTally n (named_of named) tally → IsCount held places before count → IsCount held places (before ++ learns_of n named) next
+count-placed held places before n named tally count next some room left learns told h =
+    let positive : 0 < count.left = some-left count.left some in
+    let many : length (learns_of n named) ≡ tally.certificates = length-map (of_length n (named_of named)) (λ (c : ℕ × ℕ). c.1) ∙ sym told.certificates in
+    let placed = judged-placed places before (learns_of n named) (omega (arith, many, room, positive, h.left)) in
+    let long = length-append before (learns_of n named) in
+    record { learns = omega (arith, placed, learns, h.learns, many); left = omega (arith, left, positive, h.left, long, many) }
+  where
+    some-left : (m : ℕ) → m ≢ 0 → 0 < m
+    some-left zero e = absurd (e refl)
+    some-left (suc m) e = omega arith
 
 -- ---- of a length
 pub count-none : (held places n : ℕ) (before : List ℕ) (count : Count) → IsCount held places before count → IsCount held places (before ++ learns_of n []) count

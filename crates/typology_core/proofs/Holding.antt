@@ -44,10 +44,10 @@ pub record IsLength (problem : Problem) (n reached count : ℕ) : Type 0 where
   pub holds : reached - count ≡ length (held_at problem n)
   pub few : reached ≤ 18483637561856970719232
 
-pub length-counted : (problem : Problem) (n held reached count : ℕ) (named : List Named) → IsWellFormed problem → n ≤ length problem.inputs → length (cuts problem) < 18446744073709551616 → length (languages problem) < 18446744073709551616
-    → named_of named ≡ named_in problem → count ≡ total_of (of_length n (named_of named)) → IsHeldBelow problem n held reached → IsLength problem n reached count
-length-counted problem n held reached count named well within few choices all e h =
-    let told : count ≡ length (refuted_at problem n) = e ∙ ap (λ (l : List (ℕ × ℕ)). total_of (of_length n l)) all ∙ cuts-told problem n well within in
+pub length-counted : (problem : Problem) (n held reached count : ℕ) → IsWellFormed problem → n ≤ length problem.inputs → length (cuts problem) < 18446744073709551616 → length (languages problem) < 18446744073709551616
+    → count ≡ total_of (of_length n (named_in problem)) → IsHeldBelow problem n held reached → IsLength problem n reached count
+length-counted problem n held reached count well within few choices e h =
+    let told : count ≡ length (refuted_at problem n) = e ∙ cuts-told problem n well within in
     let split = level-split problem n in
     let most = level-within problem n well within few choices in
     by _ _ _ told split h.reached most refl refl

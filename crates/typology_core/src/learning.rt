@@ -13,8 +13,8 @@ ghost use Rattle.ot_theory.specs.Refutations as theory;
 ghost use Rattle.ot_base.specs.declared.limits.TheConstants.{INPUT_LIMIT};
 ghost use Rattle.refutation.specs.Typologies.{cuts_of};
 ghost use Rattle.search_deeds.specs.Gathered.{AreNamed};
-ghost use Rattle.typology_core.specs.Learned.{all_named, cuts_judged, held_count, named_in, of_length, total_of, with_one};
-ghost use Rattle.typology_core.specs.Judged.{IsCount, learns_of, named_of};
+ghost use Rattle.typology_core.specs.Learned.{all_named, cuts_judged, held_count, named_in, with_one};
+ghost use Rattle.typology_core.specs.Judged.{AreTallies, IsCount, IsTally, learns_of, named_of};
 
 use erc_vectors::NoMemory;
 use ot_base::InId;
@@ -64,9 +64,11 @@ pub(crate) fn learns(
     requires few { length (languages p.now) < 2 ^ 64 }
     ensures { IfOk result (λ learns. learns ≡ min (held_count p.now + cuts_judged places (length p.now.inputs) (named_in p.now)) (2 ^ 64 - 1)) }
 {
+    let longest = p.inputs();
     let named = named_by(alloc, cuts, certificates)?;
-    let held = held(p, named.as_slice());
-    Ok(judged(held, named.as_slice(), p.inputs(), places))
+    let tallies = tallies(alloc, named.as_slice(), longest)?;
+    let held = held(p, tallies.as_slice());
+    Ok(judged(held, named.as_slice(), tallies.as_slice(), longest, places))
 }
 
 /// The cuts that name each certificate.
@@ -82,9 +84,50 @@ fn named_by(alloc: Global, cuts: &[Cut], certificates: usize) -> Result<Vec<Name
     Ok(named)
 }
 
+/// How many certificates refute cuts of one length, and how many cuts name them.
+#[derive(Clone, Copy)]
+struct Tally {
+    certificates: usize,
+    cuts: u128,
+}
+
+impl Tally {
+    /// With a certificate more, which so many cuts name.
+    fn with(self, cuts: u64) -> Tally
+        requires certificates { self.certificates < 2 ^ 64 - 1 }
+        requires cuts { self.cuts + cuts < 2 ^ 128 }
+        ensures certificates { result.certificates ≡ self.certificates + 1 }
+        ensures cuts { result.cuts ≡ self.cuts + cuts }
+        ensures few { result.cuts ≤ self.cuts + (2 ^ 64 - 1) }
+    {
+        Tally {
+            certificates: self.certificates + 1,
+            cuts: self.cuts + cuts as u128,
+        }
+    }
+}
+
+/// The tally of each length up to the longest.
+fn tallies(alloc: Global, named: &[Named], longest: usize) -> Result<Vec<Tally>, NoMemory>
+    requires { longest ≤ INPUT_LIMIT }
+    ensures { IfOk result (λ tallies. AreTallies longest (named_of named.now) tallies.items) }
+{
+    prove!(named.len() <= usize::MAX);
+    let mut tallies = vec![in alloc; Tally {
+        certificates: 0,
+        cuts: 0
+    }; longest + 1]?;
+    for certificate in named {
+        if certificate.length <= longest {
+            tallies[certificate.length] = tallies[certificate.length].with(certificate.cuts);
+        }
+    }
+    Ok(tallies)
+}
+
 /// How many prefixes hold. It is 2^64 - 1 at most.
-fn held(p: &Problem, named: &[Named]) -> u64
-    requires named { named_of named.now ≡ named_in p.now }
+fn held(p: &Problem, tallies: &[Tally]) -> u64
+    requires tallies { AreTallies (length p.now.inputs) (named_in p.now) tallies.now }
     requires cuts { length (theory.cuts p.now) < 2 ^ 64 }
     requires few { length (languages p.now) < 2 ^ 64 }
     ensures { result ≡ min (held_count p.now) (2 ^ 64 - 1) }
@@ -92,25 +135,12 @@ fn held(p: &Problem, named: &[Named]) -> u64
     let mut held: u128 = 0;
     let mut reached: u128 = 1;
     for length in 0..p.inputs() {
-        let here = reached - cuts_of_length(named, length);
+        let here = reached - tallies[length].cuts;
         held += here;
         reached = here * p.classes(InId(length as u32)) as u128;
     }
-    held += reached - cuts_of_length(named, p.inputs());
+    held += reached - tallies[p.inputs()].cuts;
     held.min(u64::MAX as u128) as u64
-}
-
-/// The number of cuts of a length.
-fn cuts_of_length(named: &[Named], length: usize) -> u128
-    ensures { result ≡ total_of (of_length length (named_of named.now)) }
-{
-    let mut cuts = 0;
-    for certificate in named {
-        if certificate.length == length {
-            cuts += certificate.cuts as u128;
-        }
-    }
-    cuts
 }
 
 /// How often demotion has judged a prefix, and how many places are left.
@@ -138,10 +168,25 @@ impl Count {
         }
     }
 
-    /// With the cuts of a length.
-    fn with_length(self, named: &[Named], length: usize) -> Count
+    /// With the cuts of a length, by its tally, and one certificate after another only where the places run out among them.
+    fn with_length(self, named: &[Named], length: usize, tally: Tally) -> Count
+        requires { IsTally length (named_of named.now) tally }
         ensures { (held places : ℕ) (before : List ℕ) → IsCount held places before self → IsCount held places (before ++ learns_of length named.now) result }
     {
+        if self.left == 0 {
+            return Count {
+                learns: self
+                    .learns
+                    .saturating_add(tally.cuts.min(u64::MAX as u128) as u64),
+                left: 0,
+            };
+        }
+        if tally.certificates <= self.left {
+            return Count {
+                learns: self.learns.saturating_add(tally.certificates as u64),
+                left: self.left - tally.certificates,
+            };
+        }
         let mut count = self;
         for certificate in named {
             if certificate.length == length {
@@ -153,8 +198,9 @@ impl Count {
 }
 
 /// How often demotion judges the cuts that name these certificates, and so many prefixes besides.
-fn judged(held: u64, named: &[Named], longest: usize, places: usize) -> u64
-    requires { longest ≤ INPUT_LIMIT }
+fn judged(held: u64, named: &[Named], tallies: &[Tally], longest: usize, places: usize) -> u64
+    requires longest { longest ≤ INPUT_LIMIT }
+    requires tallies { AreTallies longest (named_of named.now) tallies.now }
     ensures { result ≡ min (held + cuts_judged places longest (named_of named.now)) (2 ^ 64 - 1) }
 {
     let mut count = Count {
@@ -162,7 +208,7 @@ fn judged(held: u64, named: &[Named], longest: usize, places: usize) -> u64
         left: places,
     };
     for length in 0..longest + 1 {
-        count = count.with_length(named, length);
+        count = count.with_length(named, length, tallies[length]);
     }
     count.learns
 }
