@@ -1,6 +1,5 @@
 -- What the loops count: the cuts that name each certificate, and how often they are judged.
 use Rattle.std.proofs.Common.{◌≡◌, ◌≢◌, ℕ, zero, suc, ◌+◌, ◌-◌, ◌*◌, ◌^◌, ◌<◌, ◌≤◌, ◌⊎◌, List, [], ◌∷◌, ◌++◌, Bool, ◌==◌, arith, refl, sym, ◌∙◌, ap, subst, cond, inl, inr, length, length-append, append_assoc, map, flat_map, get_or, min, set, take, replicate}
-use Rattle.std.specs.Prelude.{sum_by}
 use Rattle.std.specs.List.{filter, range_with_len}
 use Rattle.std.proofs.lemmas.Bool.{cases_Bool, cases_eq, eq-eqb, ne_eqb}
 use Rattle.std.proofs.lemmas.List.{append-nil, ext_get_or, get_or-map, get_or-replicate, get_or-set_other, get_or-set_same, length-map, length-replicate, length-set, length-take-le, map-append, map-id, map-set, take_more}
