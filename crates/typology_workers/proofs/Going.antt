@@ -22,17 +22,19 @@ use Rattle.search_deeds.specs.Made.{AreMade}
 use Rattle.search_machine.specs.Findings.{IsJudged}
 use Rattle.violation_profiles.specs.WellFormed.{IsPrefix, IsWellFormed}
 use Rattle.typology_workers.specs.Paths.{IsPathOf, before_of, prefix_of}
+use Rattle.typology_workers.specs.Remembered.{AreRemembered}
 use Rattle.typology_workers.specs.declared.path.Path.{Path}
 use Rattle.typology_workers.specs.declared.path.Step.{Step}
 
 -- the empty prefix
-pub path_none : (problem : Problem) (path : Path) → path.steps.items ≡ [] → path.asked.terms.items ≡ [] → path.asked.conditions.items ≡ [] → AreMade problem path.ready → IsPathOf problem path
-path_none problem path none terms conditions made = record {
+pub path_none : (problem : Problem) (path : Path) → path.steps.items ≡ [] → path.asked.terms.items ≡ [] → path.asked.conditions.items ≡ [] → AreMade problem path.ready → ((p : Problem) → AreRemembered p path.memo) → IsPathOf problem path
+path_none problem path none terms conditions made remembered = record {
   asked = rw (none, terms, conditions) (asked-nothing problem);
   before = λ k lt. absurd (omega (arith, ap (λ (l : List Step). length l) none));
   within = λ k lt. absurd (omega (arith, ap (λ (l : List Step). length l) none));
   ordered = λ j k le lt. absurd (omega (arith, ap (λ (l : List Step). length l) none));
   made = made;
+  remembered = remembered problem;
 }
 
 pub prefix-back : (path new : Path) (kept : ℕ) → new.steps.items ≡ take kept path.steps.items → prefix_of new ≡ take kept (prefix_of path)
@@ -40,8 +42,8 @@ prefix-back path new kept e = ap (map (λ (step : Step). step.class.0)) e ∙ sy
 
 -- back to the first classes, of which more go on
 pub path-back : (problem : Problem) (path new : Path) (kept : ℕ) → kept < length path.steps.items → new.steps.items ≡ take kept path.steps.items
-    → new.asked.terms.items ≡ take (slice_index (before_of path) kept) path.asked.terms.items → new.asked.conditions.items ≡ take (slice_index (before_of path) kept) path.asked.conditions.items → new.ready ≡ path.ready → IsPathOf problem path → IsPathOf problem new
-path-back problem path new kept below steps terms conditions ready h = record {
+    → new.asked.terms.items ≡ take (slice_index (before_of path) kept) path.asked.terms.items → new.asked.conditions.items ≡ take (slice_index (before_of path) kept) path.asked.conditions.items → new.ready ≡ path.ready → new.memo ≡ path.memo → IsPathOf problem path → IsPathOf problem new
+path-back problem path new kept below steps terms conditions ready memo h = record {
   asked = rw (prefix-back path new kept steps, terms, conditions) (h.before kept below);
   before = λ k lt.
       let less : k < kept = (omega (arith, lt, long)) in
@@ -61,6 +63,7 @@ path-back problem path new kept below steps terms conditions ready h = record {
       let less : k < kept = (omega (arith, lt, long)) in
       rw (here j (omega arith), here k less) (h.ordered j k le (omega arith));
   made = rw ready h.made;
+  remembered = rw memo h.remembered;
 }
   where
     end : ℕ
@@ -78,8 +81,8 @@ prefix-on path new step e = ap (map (λ (step : Step). step.class.0)) e ∙ map-
 -- on to a class of the next input
 pub path-on : (problem : Problem) (path new : Path) (step : Step) (i : ℕ) → IsPathOf problem path → new.steps.items ≡ path.steps.items ++ step ∷ [] → i ≡ length path.steps.items → step.before ≡ length path.asked.terms.items
     → AreAsked problem (terms_of problem (prefix_of path) ++ terms_of_class (classes_at problem i) i step.class.0) new.asked.terms.items new.asked.conditions.items
-    → Begins path.asked.terms.items new.asked.terms.items → Begins path.asked.conditions.items new.asked.conditions.items → AreMade problem new.ready → IsPathOf problem new
-path-on problem path new step i h steps at count asked t c made = record {
+    → Begins path.asked.terms.items new.asked.terms.items → Begins path.asked.conditions.items new.asked.conditions.items → AreMade problem new.ready → new.memo ≡ path.memo → IsPathOf problem new
+path-on problem path new step i h steps at count asked t c made memo = record {
   asked = rw (prefix-on path new step steps, terms_of-push problem (prefix_of path) i step.class.0 (length-map path.steps.items (λ (s : Step). s.class.0) ∙ sym at)) asked;
   before = λ k lt. elim (cases_lt k (length path.steps.items)) [
     | inl less ↦
@@ -117,6 +120,7 @@ path-on problem path new step i h steps at count asked t c made = record {
     ]
   ];
   made = made;
+  remembered = rw memo h.remembered;
 }
   where
     before-on : before_of new ≡ before_of path ++ step.before ∷ []

@@ -17,6 +17,7 @@ pub mod Consults
 pub mod Settles
 pub mod Indexing
 pub mod Going
+pub mod Remembering
 pub mod Sifting
 pub mod Turning
 pub mod Seated

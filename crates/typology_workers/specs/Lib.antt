@@ -8,5 +8,6 @@ pub mod Packets
 pub mod Found
 pub mod Indexed
 pub mod Paths
+pub mod Remembered
 pub mod Turns
 pub mod Turned

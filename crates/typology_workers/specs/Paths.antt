@@ -1,9 +1,11 @@
 -- The prefix that was judged last, and what its classes ask of a ranking.
-use Rattle.std.specs.Prelude.{ℕ, ◌<◌, ◌≤◌, List, map, length, slice_index, take}
+use Rattle.std.specs.Prelude.{◌≡◌, ℕ, ◌<◌, ◌≤◌, true, false, List, [], ◌∷◌, ◌++◌, map, length, slice_index, slice_index_or, take}
 use Rattle.ot_theory.specs.Problems.{Problem}
 use Rattle.ot_theory.specs.Languages.{terms_of}
+use Rattle.ot_theory.specs.Refutations.{no_ranking_keeps}
 use Rattle.refutation.specs.Asked.{AreAsked}
 use Rattle.search_deeds.specs.Made.{AreMade}
+use Rattle.typology_workers.specs.Remembered.{AreRemembered}
 use Rattle.typology_workers.specs.declared.path.Path.{Path}
 
 abbrev pub prefix_of : Path → List ℕ
@@ -21,3 +23,11 @@ pub record IsPathOf (problem : Problem) (path : Path) : Type 0 where
   pub within : (k : ℕ) → k < length path.steps.items → slice_index (before_of path) k ≤ length path.asked.terms.items
   pub ordered : (j k : ℕ) → j ≤ k → k < length path.steps.items → slice_index (before_of path) j ≤ slice_index (before_of path) k
   pub made : AreMade problem path.ready
+  pub remembered : AreRemembered problem path.memo
+
+-- Some ranking keeps the terms before this place, and none keeps the one that stands here beside what the first classes ask.
+pub record IsLastNeeded (problem : Problem) (path : Path) (front place : ℕ) : Type 0 where
+  pub within : place < length path.asked.terms.items
+  pub behind : slice_index (before_of path) front ≤ place
+  pub some : no_ranking_keeps problem.constraints (take place path.asked.conditions.items) ≡ false
+  pub none : no_ranking_keeps problem.constraints (take (slice_index (before_of path) front) path.asked.conditions.items ++ slice_index_or path.asked.conditions.items place [] ∷ []) ≡ true

@@ -28,6 +28,7 @@ mod halves;
 mod handing;
 mod index;
 mod learning;
+mod memo;
 mod opening;
 mod outcome;
 mod parting;

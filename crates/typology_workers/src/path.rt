@@ -2,9 +2,9 @@
 //!
 //! Of the prefixes that a worker judges one after another most are children of one parent, or of parents that differ in their last
 //! classes. So what is asked by the classes that a prefix shares with the one before it is kept, and only what its other classes
-//! ask is added.
+//! ask is added. And a certificate that was found for one prefix is looked for first when another one is judged.
 
-ghost use Rattle.std.specs.Prelude.{◌≡◌, ◌<◌, ◌≤◌, List, ◌∷◌, [], ◌++◌, length, take, IfOk, OnOk};
+ghost use Rattle.std.specs.Prelude.{◌≡◌, ◌<◌, ◌≤◌, List, ◌∷◌, [], ◌++◌, length, take, IfOk, IfSome, OnOk};
 ghost use Rattle.ot_theory.specs.Problems as problems;
 ghost use Rattle.ot_theory.specs.Languages as theory;
 ghost use Rattle.ot_theory.specs.Languages.{classes_at, terms_of_class};
@@ -12,13 +12,15 @@ ghost use Rattle.refutation.specs.Asked.{AreAsked, Begins};
 ghost use Rattle.refutation.specs.Prefixes.{class_numbers};
 ghost use Rattle.search_deeds.specs.Made.{AreMade};
 ghost use Rattle.search_machine.specs.Findings.{IsJudged};
-ghost use Rattle.typology_workers.specs.Paths.{IsPathOf, prefix_of};
+ghost use Rattle.refutation.specs.declared.judging.Finding.TheVariants.{Refuted};
+ghost use Rattle.typology_workers.specs.Paths.{IsLastNeeded, IsPathOf, prefix_of};
 ghost use Rattle.violation_profiles.specs.WellFormed.{IsPrefix};
 
-use demotion::least_hierarchy;
+use crate::memo::{Entry, Memo};
+use demotion::{is_hopeless, least_hierarchy};
 use erc_vectors::{Condition, NoMemory};
 use ot_base::{ClassId, INPUT_LIMIT, InId};
-use refutation::{Asked, core_of_conditions};
+use refutation::{Asked, Contradiction, Prefix, Term, core_of_conditions};
 use search_deeds::Ready;
 use search_machine::Finding;
 use std::alloc::Global;
@@ -31,12 +33,14 @@ pub(crate) struct Step {
     pub(crate) before: usize,
 }
 
-/// The prefix that was judged last, what its classes ask of a ranking, and what each class of each input asks, as far as it is made.
+/// The prefix that was judged last, what its classes ask of a ranking, what each class of each input asks, as far as it is made, and
+/// the certificates that were found last.
 #[derive(Drop)]
 pub(crate) struct Path {
     pub(crate) steps: Vec<Step>,
     pub(crate) asked: Asked,
     pub(crate) ready: Ready,
+    pub(crate) memo: Memo,
 }
 
 impl Path {
@@ -49,11 +53,12 @@ impl Path {
             steps: Vec::new(alloc),
             asked: Asked::nothing(alloc),
             ready: Ready::new(alloc, p)?,
+            memo: Memo::new(alloc)?,
         })
     }
 
     /// Judges a prefix of the problem by demotion: the least hierarchy of its conditions, or, where no ranking keeps them, the
-    /// certificate of its terms.
+    /// certificate of its terms, which is then remembered.
     pub(crate) fn judge(
         &mut self,
         alloc: Global,
@@ -66,7 +71,14 @@ impl Path {
         ensures path { OnOk result (IsPathOf p.now self.new) }
     {
         self.go_to(alloc, p, prefix)?;
-        self.judge_here(alloc, p)
+        if let Some(certificate) = self.recalled(p, prefix) {
+            return Ok(Finding::Refuted(certificate.copy()?));
+        }
+        let finding = self.judge_here(alloc, p)?;
+        if let Finding::Refuted(certificate) = &finding {
+            self.remember(alloc, p, prefix, certificate)?;
+        }
+        Ok(finding)
     }
 
     /// Goes to a prefix of the problem.
@@ -128,7 +140,89 @@ impl Path {
         Ok(())
     }
 
-    /// Judges the prefix of the path.
+    /// The certificate of the prefix of the path, if it is remembered: that of the term at which the fronts of its terms come to be
+    /// kept by no ranking.
+    fn recalled(&self, p: &Problem, prefix: &[ClassId]) -> Option<&Contradiction>
+        requires prefix { IsPrefix p.now (class_numbers prefix.now) }
+        requires path { IsPathOf p.now self.now }
+        requires there { prefix_of self.now ≡ class_numbers prefix.now }
+        ensures { IfSome result (λ certificate. IsJudged p.now (class_numbers prefix.now) (Refuted certificate.now)) }
+    {
+        let before = self.steps.last()?.before;
+        for k in before..self.asked.terms.len() {
+            if let Some(entry) = self.memo.of(&self.asked.terms[k], prefix) {
+                if is_hopeless(p.constraints(), &self.asked.conditions[..k]) {
+                    return None;
+                }
+                return Some(&entry.certificate);
+            }
+        }
+        None
+    }
+
+    /// Remembers the certificate of the prefix of the path, by its last term and the classes up to that of the term before it.
+    fn remember(
+        &mut self,
+        alloc: Global,
+        p: &Problem,
+        prefix: &[ClassId],
+        certificate: &Contradiction,
+    ) -> Result<(), NoMemory>
+        requires prefix { IsPrefix p.now (class_numbers prefix.now) }
+        requires path { IsPathOf p.now self.old }
+        requires there { prefix_of self.old ≡ class_numbers prefix.now }
+        requires judged { IsJudged p.now (class_numbers prefix.now) (Refuted certificate.now) }
+        ensures { OnOk result (IsPathOf p.now self.new) }
+    {
+        prove!(prefix.len() <= p.inputs());
+        let front = classes_needed(certificate.terms.as_slice());
+        if front >= prefix.len() {
+            return Ok(());
+        }
+        if let Some(last) = self.last_needed(alloc, p, front, certificate)? {
+            let entry = Entry {
+                front: Prefix::of(alloc, &prefix[..front])?,
+                last: self.asked.terms[last],
+                certificate: certificate.copy()?,
+            };
+            self.memo.put(entry);
+        }
+        Ok(())
+    }
+
+    /// The place of the last term of the certificate, if the front before it is kept by some ranking, and that term beside what the
+    /// first classes ask by none.
+    fn last_needed(
+        &self,
+        alloc: Global,
+        p: &Problem,
+        front: usize,
+        certificate: &Contradiction,
+    ) -> Result<Option<usize>, NoMemory>
+        requires path { IsPathOf p.now self.now }
+        requires front { front < length self.now.steps.items }
+        ensures { IfOk result (λ place. IfSome place (IsLastNeeded p.now self.now front)) }
+    {
+        let before = self.steps[front].before;
+        let Some(last) = certificate.terms.as_slice().last() else {
+            return Ok(None);
+        };
+        let Some(place) = self.asked.terms.iter().position(|term| term == last) else {
+            return Ok(None);
+        };
+        let conditions = self.asked.conditions.as_slice();
+        if place < before || is_hopeless(p.constraints(), &conditions[..place]) {
+            return Ok(None);
+        }
+        let mut needed = copied(alloc, &conditions[..before])?;
+        needed.push(conditions[place])?;
+        if is_hopeless(p.constraints(), needed.as_slice()) {
+            return Ok(Some(place));
+        }
+        Ok(None)
+    }
+
+    /// Judges the prefix of the path by demotion.
     fn judge_here(&self, alloc: Global, p: &Problem) -> Result<Finding, NoMemory>
         requires prefix { IsPrefix p.now (prefix_of self.now) }
         requires path { IsPathOf p.now self.now }
@@ -145,6 +239,14 @@ impl Path {
             }
         }
     }
+}
+
+/// How many classes there are up to that of the last term but one.
+fn classes_needed(terms: &[Term]) -> usize {
+    if terms.len() < 2 {
+        return 0;
+    }
+    terms[terms.len() - 2].input.0 as usize + 1
 }
 
 /// Adds what a class of an input asks, without what the others imply.
