@@ -27,12 +27,14 @@ use Rattle.typology_workers.specs.declared.path.Path.{Path}
 use Rattle.typology_workers.specs.declared.path.Step.{Step}
 
 -- the empty prefix
-pub path_none : (problem : Problem) (path : Path) → path.steps.items ≡ [] → path.asked.terms.items ≡ [] → path.asked.conditions.items ≡ [] → AreMade problem path.ready → ((p : Problem) → AreRemembered p path.memo) → IsPathOf problem path
-path_none problem path none terms conditions made remembered = record {
+pub path_none : (problem : Problem) (path : Path) → path.steps.items ≡ [] → path.asked.terms.items ≡ [] → path.asked.conditions.items ≡ [] → AreMade problem path.ready → ((p : Problem) → AreRemembered p path.memo) → path.fronts ≡ 0 → IsPathOf problem path
+path_none problem path none terms conditions made remembered nothing = record {
   asked = rw (none, terms, conditions) (asked-nothing problem);
   before = λ k lt. absurd (omega (arith, ap (λ (l : List Step). length l) none));
   within = λ k lt. absurd (omega (arith, ap (λ (l : List Step). length l) none));
   ordered = λ j k le lt. absurd (omega (arith, ap (λ (l : List Step). length l) none));
+  fronts = λ k lt. absurd (omega (arith, lt, nothing));
+  reach = omega (arith, nothing);
   made = made;
   remembered = remembered problem;
 }
@@ -42,8 +44,9 @@ prefix-back path new kept e = ap (map (λ (step : Step). step.class.0)) e ∙ sy
 
 -- back to the first classes, of which more go on
 pub path-back : (problem : Problem) (path new : Path) (kept : ℕ) → kept < length path.steps.items → new.steps.items ≡ take kept path.steps.items
-    → new.asked.terms.items ≡ take (slice_index (before_of path) kept) path.asked.terms.items → new.asked.conditions.items ≡ take (slice_index (before_of path) kept) path.asked.conditions.items → new.ready ≡ path.ready → new.memo ≡ path.memo → IsPathOf problem path → IsPathOf problem new
-path-back problem path new kept below steps terms conditions ready memo h = record {
+    → new.asked.terms.items ≡ take (slice_index (before_of path) kept) path.asked.terms.items → new.asked.conditions.items ≡ take (slice_index (before_of path) kept) path.asked.conditions.items → new.ready ≡ path.ready → new.memo ≡ path.memo
+    → new.fronts ≤ path.fronts → new.fronts ≤ slice_index (before_of path) kept + 1 → IsPathOf problem path → IsPathOf problem new
+path-back problem path new kept below steps terms conditions ready memo fewer reach h = record {
   asked = rw (prefix-back path new kept steps, terms, conditions) (h.before kept below);
   before = λ k lt.
       let less : k < kept = (omega (arith, lt, long)) in
@@ -62,6 +65,8 @@ path-back problem path new kept below steps terms conditions ready memo h = reco
   ordered = λ j k le lt.
       let less : k < kept = (omega (arith, lt, long)) in
       rw (here j (omega arith), here k less) (h.ordered j k le (omega arith));
+  fronts = λ k lt. rw (conditions, take-take k end path.asked.conditions.items (omega (arith, lt, reach))) (h.fronts k (omega (arith, lt, fewer)));
+  reach = rw (terms, length-take-le end path.asked.terms.items (h.within kept below)) reach;
   made = rw ready h.made;
   remembered = rw memo h.remembered;
 }
@@ -81,8 +86,8 @@ prefix-on path new step e = ap (map (λ (step : Step). step.class.0)) e ∙ map-
 -- on to a class of the next input
 pub path-on : (problem : Problem) (path new : Path) (step : Step) (i : ℕ) → IsPathOf problem path → new.steps.items ≡ path.steps.items ++ step ∷ [] → i ≡ length path.steps.items → step.before ≡ length path.asked.terms.items
     → AreAsked problem (terms_of problem (prefix_of path) ++ terms_of_class (classes_at problem i) i step.class.0) new.asked.terms.items new.asked.conditions.items
-    → Begins path.asked.terms.items new.asked.terms.items → Begins path.asked.conditions.items new.asked.conditions.items → AreMade problem new.ready → new.memo ≡ path.memo → IsPathOf problem new
-path-on problem path new step i h steps at count asked t c made memo = record {
+    → Begins path.asked.terms.items new.asked.terms.items → Begins path.asked.conditions.items new.asked.conditions.items → AreMade problem new.ready → new.memo ≡ path.memo → new.fronts ≡ path.fronts → IsPathOf problem new
+path-on problem path new step i h steps at count asked t c made memo same = record {
   asked = rw (prefix-on path new step steps, terms_of-push problem (prefix_of path) i step.class.0 (length-map path.steps.items (λ (s : Step). s.class.0) ∙ sym at)) asked;
   before = λ k lt. elim (cases_lt k (length path.steps.items)) [
     | inl less ↦
@@ -119,6 +124,10 @@ path-on problem path new step i h steps at count asked t c made memo = record {
       | inr behind ↦ rw (newest j (omega (arith, last k lt most)), newest k (last k lt most)) (omega arith)
     ]
   ];
+  fronts = λ k lt.
+      let less : k < path.fronts = omega (arith, lt, same) in
+      rw (c.whole, take-append-le k path.asked.conditions.items c.rest (omega (arith, less, h.reach, as_many))) (h.fronts k less);
+  reach = rw (same, t.whole, length-append path.asked.terms.items t.rest) (omega (arith, h.reach));
   made = made;
   remembered = rw memo h.remembered;
 }

@@ -2,8 +2,10 @@
 -- beside that one.
 use Rattle.std.proofs.Common.{◌≡◌, ℕ, ◌+◌, ◌-◌, ◌<◌, ◌≤◌, List, [], ◌∷◌, ◌++◌, Bool, true, false, arith, sym, ◌∙◌, ap, append_assoc, length, get_or, map, take, take-take, drop}
 use Rattle.std.specs.Prelude.{slice_index, slice_index_or}
-use Rattle.std.proofs.lemmas.Bool.{false_from_ne_true}
+use Rattle.std.specs.List.{list_all}
+use Rattle.std.proofs.lemmas.Bool.{and_parts, false_from_ne_true}
 use Rattle.std.proofs.lemmas.List.{append-nil, get_or-map, length-map, map-append, take-append-drop, take-map, take_more}
+use Rattle.std.proofs.lemmas.List.Folds.{list_all-append}
 use Rattle.ot_theory.specs.declared.Mark.{Mark}
 use Rattle.ot_theory.specs.Languages as theory
 use Rattle.ot_theory.specs.Languages.{condition_of, refuted, terms_of}
@@ -12,7 +14,7 @@ use Rattle.ot_theory.specs.Reductions.{IsReduced}
 use Rattle.ot_theory.specs.Refutations.{certificate_of, kept_of, no_ranking_keeps}
 use Rattle.ot_theory.proofs.Deletion.{IsMonotone-beside, kept_of-append, kept_of-halved, kept_of-none, kept_of-same}
 use Rattle.ot_theory.proofs.Redundant.{IsReduced-certificate, IsReduced-hopeless, IsReduced-push}
-use Rattle.ot_theory.proofs.Sets.{IsMonotone-hopeless, is_hopeless}
+use Rattle.ot_theory.proofs.Sets.{IsMonotone-hopeless, IsPart, is_hopeless, no_ranking_keeps-more}
 use Rattle.refutation.specs.Terms.{term_of, terms_in}
 use Rattle.refutation.specs.declared.judging.Finding.TheVariants.{Refuted}
 use Rattle.refutation.specs.declared.term.Term.{Term}
@@ -69,6 +71,16 @@ certificate-same problem first others term behind some none =
         ∙ kept_of-same (λ terms. beside (terms ++ [])) beside (λ terms. ap beside (append-nil terms)) [] first
 
 -- ---- on a path
+-- What some ranking keeps, it keeps the fronts of.
+pub fronts-kept : (n : ℕ) (set : List (List Mark)) (k : ℕ) → no_ranking_keeps n set ≡ false → no_ranking_keeps n (take k set) ≡ false
+fronts-kept n set k some = false_from_ne_true _ (λ e. let no : true ≡ false = sym (no_ranking_keeps-more n (take k set) set part e) ∙ some in cc)
+  where
+    part : IsPart (take k set) set
+    part p h = (and_parts _ _ (sym (list_all-append p (take k set) (drop k set)) ∙ ap (list_all p) (take-append-drop k set) ∙ h)).0
+
+pub fronts-up-to : (n : ℕ) (set : List (List Mark)) (place k : ℕ) → k < place + 1 → no_ranking_keeps n (take place set) ≡ false → no_ranking_keeps n (take k set) ≡ false
+fronts-up-to n set place k within some = ap (no_ranking_keeps n) (sym (take-take k place set (omega (arith, within)))) ∙ fronts-kept n (take place set) k some
+
 -- the terms up to a place: the first ones, and the others
 front-parted : (terms : List Term) (front place : ℕ) → front ≤ place → terms_in (take place terms) ≡ terms_in (take front terms) ++ terms_in (drop front (take place terms))
 front-parted terms front place behind =

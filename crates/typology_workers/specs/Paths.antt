@@ -1,5 +1,5 @@
 -- The prefix that was judged last, and what its classes ask of a ranking.
-use Rattle.std.specs.Prelude.{◌≡◌, ℕ, ◌<◌, ◌≤◌, true, false, List, [], ◌∷◌, ◌++◌, map, length, slice_index, slice_index_or, take}
+use Rattle.std.specs.Prelude.{◌≡◌, ℕ, ◌+◌, ◌<◌, ◌≤◌, true, false, List, [], ◌∷◌, ◌++◌, map, length, slice_index, slice_index_or, take}
 use Rattle.ot_theory.specs.Problems.{Problem}
 use Rattle.ot_theory.specs.Languages.{terms_of}
 use Rattle.ot_theory.specs.Refutations.{no_ranking_keeps}
@@ -15,13 +15,16 @@ prefix_of path = map (λ step. step.class.0) path.steps.items
 abbrev pub before_of : Path → List ℕ
 before_of path = map (λ step. step.before) path.steps.items
 
--- The terms and conditions are what the classes ask, and those before each class what the classes before it ask.
+-- The terms and conditions are what the classes ask, and those before each class what the classes before it ask. Some ranking keeps each
+-- of the fronts that are counted.
 pub record IsPathOf (problem : Problem) (path : Path) : Type 0 where
   pub asked : AreAsked problem (terms_of problem (prefix_of path)) path.asked.terms.items path.asked.conditions.items
   pub before : (k : ℕ) → k < length path.steps.items
       → AreAsked problem (terms_of problem (take k (prefix_of path))) (take (slice_index (before_of path) k) path.asked.terms.items) (take (slice_index (before_of path) k) path.asked.conditions.items)
   pub within : (k : ℕ) → k < length path.steps.items → slice_index (before_of path) k ≤ length path.asked.terms.items
   pub ordered : (j k : ℕ) → j ≤ k → k < length path.steps.items → slice_index (before_of path) j ≤ slice_index (before_of path) k
+  pub fronts : (k : ℕ) → k < path.fronts → no_ranking_keeps problem.constraints (take k path.asked.conditions.items) ≡ false
+  pub reach : path.fronts ≤ length path.asked.terms.items + 1
   pub made : AreMade problem path.ready
   pub remembered : AreRemembered problem path.memo
 

@@ -4,16 +4,17 @@
 //! classes. So what is asked by the classes that a prefix shares with the one before it is kept, and only what its other classes
 //! ask is added. And a certificate that was found for one prefix is looked for first when another one is judged.
 
-ghost use Rattle.std.specs.Prelude.{◌≡◌, ◌<◌, ◌≤◌, List, ◌∷◌, [], ◌++◌, length, take, IfOk, IfSome, OnOk};
+ghost use Rattle.std.specs.Prelude.{◌≡◌, ◌+◌, ◌<◌, ◌≤◌, List, ◌∷◌, [], ◌++◌, true, false, length, slice_index, take, ℕ, IfOk, IfSome, OnOk};
 ghost use Rattle.ot_theory.specs.Problems as problems;
 ghost use Rattle.ot_theory.specs.Languages as theory;
 ghost use Rattle.ot_theory.specs.Languages.{classes_at, terms_of_class};
+ghost use Rattle.ot_theory.specs.Refutations.{no_ranking_keeps};
 ghost use Rattle.refutation.specs.Asked.{AreAsked, Begins};
 ghost use Rattle.refutation.specs.Prefixes.{class_numbers};
 ghost use Rattle.search_deeds.specs.Made.{AreMade};
 ghost use Rattle.search_machine.specs.Findings.{IsJudged};
 ghost use Rattle.refutation.specs.declared.judging.Finding.TheVariants.{Refuted};
-ghost use Rattle.typology_workers.specs.Paths.{IsLastNeeded, IsPathOf, prefix_of};
+ghost use Rattle.typology_workers.specs.Paths.{IsLastNeeded, IsPathOf, before_of, prefix_of};
 ghost use Rattle.violation_profiles.specs.WellFormed.{IsPrefix};
 
 use crate::memo::{Entry, Memo};
@@ -34,11 +35,13 @@ pub(crate) struct Step {
 }
 
 /// The prefix that was judged last, what its classes ask of a ranking, what each class of each input asks, as far as it is made, and
-/// the certificates that were found last.
+/// the certificates that were found last. Of so many fronts of what the prefix asks, from the empty one on, it is known that some ranking
+/// keeps them.
 #[derive(Drop)]
 pub(crate) struct Path {
     pub(crate) steps: Vec<Step>,
     pub(crate) asked: Asked,
+    pub(crate) fronts: usize,
     pub(crate) ready: Ready,
     pub(crate) memo: Memo,
 }
@@ -52,6 +55,7 @@ impl Path {
         Ok(Path {
             steps: Vec::new(alloc),
             asked: Asked::nothing(alloc),
+            fronts: 0,
             ready: Ready::new(alloc, p)?,
             memo: Memo::new(alloc)?,
         })
@@ -71,12 +75,13 @@ impl Path {
         ensures path { OnOk result (IsPathOf p.now self.new) }
     {
         self.go_to(alloc, p, prefix)?;
-        if let Some(certificate) = self.recalled(p, prefix) {
-            return Ok(Finding::Refuted(certificate.copy()?));
+        if let Some(certificate) = self.recalled(p, prefix)? {
+            return Ok(Finding::Refuted(certificate));
         }
         let finding = self.judge_here(alloc, p)?;
-        if let Finding::Refuted(certificate) = &finding {
-            self.remember(alloc, p, prefix, certificate)?;
+        match &finding {
+            Finding::Holds(_) => self.keep_all(p),
+            Finding::Refuted(certificate) => self.remember(alloc, p, prefix, certificate)?,
         }
         Ok(finding)
     }
@@ -118,7 +123,9 @@ impl Path {
         ensures there { prefix_of self.new ≡ take kept (prefix_of self.old) }
     {
         if kept < self.steps.len() {
-            self.asked.forget(self.steps[kept].before);
+            let before = self.steps[kept].before;
+            self.asked.forget(before);
+            self.fronts = shorter(self.fronts, before);
             self.steps.truncate(kept);
         }
     }
@@ -140,24 +147,75 @@ impl Path {
         Ok(())
     }
 
-    /// The certificate of the prefix of the path, if it is remembered: that of the term at which the fronts of its terms come to be
-    /// kept by no ranking.
-    fn recalled(&self, p: &Problem, prefix: &[ClassId]) -> Option<&Contradiction>
+    /// The certificate of the prefix of the path, if it is remembered.
+    fn recalled(
+        &mut self,
+        p: &Problem,
+        prefix: &[ClassId],
+    ) -> Result<Option<Contradiction>, NoMemory>
         requires prefix { IsPrefix p.now (class_numbers prefix.now) }
-        requires path { IsPathOf p.now self.now }
+        requires path { IsPathOf p.now self.old }
+        requires there { prefix_of self.old ≡ class_numbers prefix.now }
+        ensures judged { IfOk result (λ found. IfSome found (λ certificate. IsJudged p.now (class_numbers prefix.now) (Refuted certificate))) }
+        ensures path { OnOk result (IsPathOf p.now self.new) }
+        ensures there { OnOk result (prefix_of self.new ≡ prefix_of self.old) }
+    {
+        prove!(prefix.len() <= p.inputs());
+        let Some(place) = self.remembered_at(prefix) else {
+            return Ok(None);
+        };
+        if !self.keeps_before(p, place) {
+            return Ok(None);
+        }
+        match self.memo.of(&self.asked.terms[place], prefix) {
+            Some(entry) => Ok(Some(entry.certificate.copy()?)),
+            None => Ok(None),
+        }
+    }
+
+    /// The place of the first term of the last class of which an entry is remembered whose front begins the prefix.
+    fn remembered_at(&self, prefix: &[ClassId]) -> Option<usize>
         requires there { prefix_of self.now ≡ class_numbers prefix.now }
-        ensures { IfSome result (λ certificate. IsJudged p.now (class_numbers prefix.now) (Refuted certificate.now)) }
+        ensures within { IfSome result (λ place. place < length self.now.asked.terms.items) }
+        ensures behind { IfSome result (λ place. (p : problems.Problem) (front : ℕ) → IsPathOf p self.now → front < length prefix.now → slice_index (before_of self.now) front ≤ place) }
     {
         let before = self.steps.last()?.before;
         for k in before..self.asked.terms.len() {
-            if let Some(entry) = self.memo.of(&self.asked.terms[k], prefix) {
-                if is_hopeless(p.constraints(), &self.asked.conditions[..k]) {
-                    return None;
-                }
-                return Some(&entry.certificate);
+            if self.memo.of(&self.asked.terms[k], prefix).is_some() {
+                return Some(k);
             }
         }
         None
+    }
+
+    /// Whether some ranking keeps what the path asks before a place.
+    fn keeps_before(&mut self, p: &Problem, place: usize) -> bool
+        requires path { IsPathOf p.now self.old }
+        requires within { place ≤ length self.old.asked.terms.items }
+        ensures kept { result ≡ true → no_ranking_keeps p.now.constraints (take place self.new.asked.conditions.items) ≡ false }
+        ensures path { IsPathOf p.now self.new }
+        ensures steps { self.new.steps ≡ self.old.steps }
+        ensures asked { self.new.asked ≡ self.old.asked }
+    {
+        if place < self.fronts {
+            return true;
+        }
+        if is_hopeless(p.constraints(), &self.asked.conditions[..place]) {
+            return false;
+        }
+        self.fronts = place + 1;
+        true
+    }
+
+    /// Some ranking keeps all fronts of what a prefix asks that holds.
+    fn keep_all(&mut self, p: &Problem)
+        requires prefix { IsPrefix p.now (prefix_of self.old) }
+        requires path { IsPathOf p.now self.old }
+        requires holds { theory.refuted p.now (prefix_of self.old) ≡ false }
+        ensures { IsPathOf p.now self.new }
+    {
+        prove!(p.inputs() <= INPUT_LIMIT);
+        self.fronts = self.asked.terms.len() + 1;
     }
 
     /// Remembers the certificate of the prefix of the path, by its last term and the classes up to that of the term before it.
@@ -239,6 +297,14 @@ impl Path {
             }
         }
     }
+}
+
+/// How many of so many fronts have no more terms than this.
+fn shorter(fronts: usize, terms: usize) -> usize
+    ensures low { result ≤ fronts }
+    ensures reach { result ≤ terms + 1 }
+{
+    if terms < fronts { terms + 1 } else { fronts }
 }
 
 /// How many classes there are up to that of the last term but one.

@@ -13,7 +13,7 @@ returns-then-kept-len-clause-path c problem h =
     let end : c.index.result.now.before ≡ slice_index (before_of path) c.args.kept = ap (λ (s : Step). s.before) c.index.ensures ∙ sym (get_or-map (λ (s : Step). s.before) path.steps.items c.args.kept _ 0 below) in
     path-back problem path _ c.args.kept below c.truncate.ensures.items
     (c.forget.ensures.terms ∙ ap (λ (n : ℕ). take n path.asked.terms.items) end)
-    (c.forget.ensures.conditions ∙ ap (λ (n : ℕ). take n path.asked.conditions.items) end) refl refl h
+    (c.forget.ensures.conditions ∙ ap (λ (n : ℕ). take n path.asked.conditions.items) end) refl refl c.shorter-self.ensures.low (rw end at c.shorter-self.ensures.reach) h
 
 pub returns-then-kept-len-clause-there : goal.returns-then-kept-len-clause-there
-returns-then-kept-len-clause-there c = prefix-back c.args.self.now (record { steps = c.truncate.new.self; asked = c.forget.new.self; ready = c.args.self.now.ready; memo = c.args.self.now.memo }) c.args.kept c.truncate.ensures.items
+returns-then-kept-len-clause-there c = prefix-back c.args.self.now (record { steps = c.truncate.new.self; asked = c.forget.new.self; fronts = c.shorter-self.result; ready = c.args.self.now.ready; memo = c.args.self.now.memo }) c.args.kept c.truncate.ensures.items

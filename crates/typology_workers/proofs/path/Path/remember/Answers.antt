@@ -18,6 +18,8 @@ returns-in_ok-copy c =
       before = old.before;
       within = old.within;
       ordered = old.ordered;
+      fronts = old.fronts;
+      reach = old.reach;
       made = old.made;
       remembered = c.put.ensures c.args.p.now old.remembered
           (remembered c.args.p.now path prefix _ front c.in-Some.last _ c.inputs.ensures.well_formed c.requires.prefix old c.requires.there (omega (arith, c.if-front-prefix.false, length-map c.args.prefix.now (λ (class : ClassId). class.0))) needed
