@@ -53,7 +53,7 @@ fn common_front(before: &[ClassId], classes: &[ClassId]) -> usize
     front
 }
 
-/// Whether the classes are the same. All are compared, which the lanes of a vector do at once.
+/// Whether the classes are the same. All are compared, without a branch at each.
 fn are_same(before: &[ClassId], classes: &[ClassId]) -> bool
     requires { length before.now ≡ length classes.now }
     ensures { IsTrue result → before.now ≡ classes.now }

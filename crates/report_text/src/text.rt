@@ -99,7 +99,7 @@ impl Text {
         self.number_between(b'\t', n, b'\t')
     }
 
-    /// The same for a number that mostly has more than one digit.
+    /// A number in decimal that mostly has more than one digit.
     #[inline(never)]
     fn long_number(&mut self, n: usize) -> Result<(), NoMemory>
         ensures { OnOk result (self.new ≡ self.old ++ decimal n) }
