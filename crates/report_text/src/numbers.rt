@@ -8,7 +8,7 @@ use crate::text::Text;
 use erc_vectors::NoMemory;
 
 /// How many numbers are written at once.
-pub(crate) const FEW: usize = 64;
+const FEW: usize = 64;
 
 /// The numbers, the first behind one byte and each other behind another.
 #[tactic(auto, using(crate::proofs::Led::put_some, crate::proofs::Led::put_all))]
@@ -34,7 +34,7 @@ pub(crate) fn put_numbers(
 /// The same of a few numbers. A row of numbers is mostly one of numbers of one digit, which are put together and written at
 /// once.
 #[tactic(auto, using(crate::proofs::Led::put_next, crate::proofs::Led::put_all))]
-pub(crate) fn put_few(text: &mut Text, first: u8, byte: u8, few: &[u32]) -> Result<(), NoMemory>
+fn put_few(text: &mut Text, first: u8, byte: u8, few: &[u32]) -> Result<(), NoMemory>
     requires { length few.now ≤ FEW }
     ensures { OnOk result (text.new ≡ text.old ++ led first byte few.now) }
 {
