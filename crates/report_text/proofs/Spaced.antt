@@ -27,9 +27,6 @@ joined-push c f (y ∷ xs) x =
     in
     rw (join-cons c (f y) (map f (xs ++ x ∷ [])), join-cons c (f y) (map f xs), one) (sym (append_assoc (f y) _ _))
 
-spaced-push : (numbers : List ℕ) (n : ℕ) → spaced (numbers ++ n ∷ []) ≡ spaced numbers ++ (cond (is_first numbers) [] (32 ∷ []) ++ decimal n)
-spaced-push numbers n = joined-push 32 decimal numbers n
-
 first_at : {X : Type 0} (xs : List X) (k : ℕ) → k < length xs → is_first (take k xs) ≡ eqb k 0
 first_at xs zero below = refl
 first_at [] (suc k) below = absurd (omega arith)

@@ -122,8 +122,8 @@ pub record AreFew (longest seen : ℕ) (tallies : List Tally) : Type 0 where
 abbrev pub empty : Tally
 empty = record { certificates = 0; cuts = 0 }
 
-pub tallies-none : (longest : ℕ) → AreTallies longest [] (replicate (longest + 1) empty) × AreFew longest 0 (replicate (longest + 1) empty)
-tallies-none longest = (
+pub tallies_none : (longest : ℕ) → AreTallies longest [] (replicate (longest + 1) empty) × AreFew longest 0 (replicate (longest + 1) empty)
+tallies_none longest = (
   record { width = length-replicate (longest + 1) empty; each = λ n d within. subst (IsTally n []) (sym (at n d within)) (record { certificates = refl; cuts = refl }) },
   record { certificates = λ n d within. omega (arith, ap (λ (t : Tally). t.certificates) (at n d within)); cuts = λ n d within. omega (arith, ap (λ (t : Tally). t.cuts) (at n d within)) },
 )

@@ -108,6 +108,7 @@ impl Tally {
 }
 
 /// The tally of each length up to the longest.
+#[tactic(auto, using(crate::proofs::Counted::tallies_none))]
 fn tallies(alloc: Global, named: &[Named], longest: usize) -> Result<Vec<Tally>, NoMemory>
     requires { longest ≤ INPUT_LIMIT }
     ensures { IfOk result (λ tallies. AreTallies longest (named_of named.now) tallies.items) }
