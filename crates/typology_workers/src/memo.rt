@@ -15,7 +15,7 @@ use refutation::{Contradiction, Prefix, Term};
 use std::alloc::Global;
 
 /// How many certificates are remembered.
-const PLACES: usize = 1_024;
+const PLACES: usize = 64;
 
 /// How far apart the places of the terms of two inputs, and of two winners of one input, begin: more than an input has classes, and a
 /// prime.
