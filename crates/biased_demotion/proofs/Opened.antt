@@ -1,6 +1,6 @@
 -- What the open conditions say of the constraints, condition by condition.
-use Rattle.std.proofs.Common.{◌≡◌, ℕ, zero, suc, ◌+◌, ◌<◌, List, [], ◌∷◌, Bool, true, false, not, ◌&&◌, ◌||◌, ◌==◌, cond, length, take, get_or, slice_index, arith, refl, sym, ap, ◌∙◌, inl, inr}
-use Rattle.std.specs.Prelude.{bit_or, nat_lt, All}
+use Rattle.std.proofs.Common.{◌≡◌, ℕ, zero, suc, ◌+◌, ◌^◌, ◌<◌, ◌≤◌, List, [], ◌∷◌, Bool, true, false, not, ◌&&◌, ◌||◌, ◌==◌, cond, length, take, get_or, slice_index, arith, refl, sym, ap, ◌∙◌, inl, inr}
+use Rattle.std.specs.Prelude.{bit_and, bit_or, nat_lt, All}
 use Rattle.std.specs.List.{list_any, range_with_len}
 use Rattle.std.proofs.lemmas.Bool.{cases_Bool, cases_lt, and_parts, and_from, ne_eqb, lt-ltb}
 use Rattle.std.proofs.lemmas.List.Elements.{All-head, All-tail}
@@ -12,10 +12,25 @@ use Rattle.ot_theory.specs.Conditions.{is_win, is_loss, mark_at}
 use Rattle.ot_theory.specs.Demotion.{is_closed, is_blocked, is_open}
 use Rattle.ot_theory.proofs.Strata.{mark_at-within, is_loss-true}
 use Rattle.erc_vectors.specs.Masks.{IsMask}
-use Rattle.demotion.proofs.Masked.{blocked-same}
+use Rattle.erc_vectors.proofs.Bits.{any-mask}
+use Rattle.demotion.specs.Placed.{levels_of}
+use Rattle.demotion.proofs.Masked.{blocked-same, closed-mask}
 use Rattle.biased_demotion.specs.Biased.{is_free, has_open_win}
 use Rattle.biased_demotion.specs.Shown.{Shows}
 use Rattle.biased_demotion.proofs.Shown.{max_bits}
+
+-- whether a condition is open, by its masks and the placed constraints
+pub open-mask : (marks : List Mark) (w l placed : ℕ) → length marks ≤ 64 → w < 2 ^ 64 → l < 2 ^ 64 → IsMask is_win marks w → IsMask is_loss marks l → (not (l == 0) && (bit_and w placed == 0)) ≡ is_open (levels_of placed) marks
+open-mask marks w l placed short small low p q =
+    rw (any-mask is_loss marks l refl low q, closed-mask marks w placed short small p) (by (not (l == 0)) (bit_and w placed == 0))
+  where
+    by : (a b : Bool) → (a && b) ≡ (a && not (not b))
+    by true true = refl
+    by true false = refl
+    by false b = refl
+
+pub open-lossless : (marks : List Mark) (l placed : ℕ) → l < 2 ^ 64 → IsMask is_loss marks l → l ≡ 0 → false ≡ is_open (levels_of placed) marks
+open-lossless marks l placed low q none = rw (any-mask is_loss marks l refl low q, none) refl
 
 or_false : (a : Bool) → (a || false) ≡ a
 or_false true = refl

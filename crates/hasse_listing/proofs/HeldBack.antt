@@ -18,7 +18,7 @@ use Rattle.ot_theory.specs.Hierarchies.{satisfies, Satisfies}
 use Rattle.ot_theory.specs.Demotion.{is_blocked, IsGuarded}
 use Rattle.ot_theory.specs.Entailment.{entails}
 use Rattle.ot_theory.specs.Refutations.{no_ranking_keeps}
-use Rattle.ot_theory.proofs.Demotion.{AreRounds, blocked-open, open-unplaced}
+use Rattle.ot_theory.proofs.Demotion.{blocked-open, open-unplaced}
 use Rattle.ot_theory.proofs.Enumeration.{ranking-within}
 use Rattle.ot_theory.proofs.Entailing.{entails-from, entails-by_negation, mark_at-exchanged}
 use Rattle.ot_theory.proofs.Hopeless.{guarded-keeps}
@@ -72,7 +72,7 @@ entailed-unplaced n set c d placed few below within other idle none =
         ] in
         record { at = place c order; before = first; win = ap (mark_at (over n c d)) p.here ∙ over-above n c d below }
 
--- ---- One that is placed without c stands above it in a hierarchy that satisfies the set: the rounds come first, and then the
+-- ---- One that is placed without c stands above it in a hierarchy that satisfies the set: what is placed comes first, and then the
 -- strata of any other hierarchy that satisfies it.
 abbrev joined_level : ℕ → List ℕ → List ℕ → ℕ → ℕ
 joined_level r placed others x = cond (slice_index placed x == 0) (r + slice_index others x) (slice_index placed x)
@@ -94,14 +94,14 @@ exchanged-loss W e = refl
 exchanged-loss L e = absurd (cc)
 exchanged-loss E e = absurd (cc)
 
-Satisfies-joined : (n : ℕ) (set : List (List Mark)) (c d r : ℕ) (placed others : List ℕ) → All (λ marks. length marks ≡ n) set → c < n → d < n → d ≢ c → AreRounds n (alone n c ∷ set) r placed → Satisfies n set others → 0 < slice_index placed d
+Satisfies-joined : (n : ℕ) (set : List (List Mark)) (c d r : ℕ) (placed others : List ℕ) → All (λ marks. length marks ≡ n) set → c < n → d < n → d ≢ c → ((x : ℕ) → slice_index placed x ≤ r) → All (IsGuarded placed) (alone n c ∷ set) → Satisfies n set others → 0 < slice_index placed d
     → Satisfies n (map exchanged (over n c d) ∷ set) (joined n r placed others)
-Satisfies-joined n set c d r placed others widths below within other rounds s some = record {
+Satisfies-joined n set c d r placed others widths below within other low all_guarded s some = record {
   width = length-map-range_with_len (joined_level r placed others) 0 n;
   from_one = from_one;
   each = All-cons (λ marks. IsTrue (satisfies (joined n r placed others) marks)) (map exchanged (over n c d)) set
       (satisfied-WinAbove (joined n r placed others) (map exchanged (over n c d)) first)
-      (λ k e b. satisfied-WinAbove (joined n r placed others) (get_or set k e) (above (get_or set k e) (widths k e b) (All-tail (IsGuarded placed) (alone n c) set rounds.guarded k e b) (s.each k e b)));
+      (λ k e b. satisfied-WinAbove (joined n r placed others) (get_or set k e) (above (get_or set k e) (widths k e b) (All-tail (IsGuarded placed) (alone n c) set all_guarded k e b) (s.each k e b)));
 }
   where
     new : List ℕ
@@ -113,7 +113,7 @@ Satisfies-joined n set c d r placed others widths below within other rounds s so
     -- c is held back
     held : slice_index placed c ≡ 0
     held = elim (cases_lt 0 (slice_index placed c)) [
-      | inl high ↦ let g = All-head (IsGuarded placed) (alone n c) set rounds.guarded c (alone-loss n c below) high in absurd (alone-no_win n c g.0.it below g.0.win)
+      | inl high ↦ let g = All-head (IsGuarded placed) (alone n c) set all_guarded c (alone-loss n c below) high in absurd (alone-no_win n c g.0.it below g.0.win)
       | inr none ↦ omega (arith, none)
     ]
 
@@ -135,12 +135,12 @@ Satisfies-joined n set c d r placed others widths below within other rounds s so
           it = d;
           within = omega (arith, within, length-map (over n c d) exchanged, length-over n c d);
           win = mark_at-exchanged (over n c d) d ∙ ap exchanged (over-below n c d within other);
-          above = omega (arith, joined-placed n r placed others d within some, joined-left n r placed others c below held, rounds.within d, positive c below, ap (slice_index new) here);
+          above = omega (arith, joined-placed n r placed others d within some, joined-left n r placed others c below held, low d, positive c below, ap (slice_index new) here);
         }
 
     higher : (x y : ℕ) → x < n → y < n → slice_index placed x ≡ 0 → slice_index others y < slice_index others x → slice_index new y < slice_index new x
     higher x y small small' none less = elim (cases_lt 0 (slice_index placed y)) [
-      | inl high ↦ omega (arith, joined-placed n r placed others y small' high, joined-left n r placed others x small none, rounds.within y, positive x small)
+      | inl high ↦ omega (arith, joined-placed n r placed others y small' high, joined-left n r placed others x small none, low y, positive x small)
       | inr left ↦ omega (arith, joined-left n r placed others y small' (omega (arith, left)), joined-left n r placed others x small none, less)
     ]
 
@@ -161,7 +161,7 @@ not_entailed-placed n set c d placed widths kept below within other h bit =
     let f = kept-ranking n set kept in
     let high : List ℕ = levels_along n f.order in
     let s : Satisfies n set high = Satisfies-along n set f.order widths f.ranking f.passes in
-    let new = Satisfies-joined n set c d h.count h.levels high widths below within other h.rounds s (positive (slice_index h.levels d) (sym bit ∙ h.mask d within)) in
+    let new = Satisfies-joined n set c d h.count h.levels high widths below within other h.within h.guarded s (positive (slice_index h.levels d) (sym bit ∙ h.mask d within)) in
     let wide = All-cons (λ marks. length marks ≡ n) (map exchanged (over n c d)) set (length-map (over n c d) exchanged ∙ length-over n c d) widths in
     entails-by_negation n set (over n c d) (length-over n c d)
     ∙ rw (over-marked n c d below, kept-satisfied n (map exchanged (over n c d) ∷ set) (joined n h.count h.levels high) wide new) refl

@@ -1,7 +1,7 @@
 use Rattle.std.proofs.Common.{◌≡◌, ◌∙◌, ◌==◌, ◌&&◌, arith, sym, ap, not, true, false, Bool}
 use Rattle.std.specs.Prelude.{bit_and}
 use Rattle.std.proofs.lemmas.Bool.{ne_eqb, eq-eqb}
-use Rattle.demotion.proofs.Masked.{open-lossless, open-mask}
+use Rattle.biased_demotion.proofs.Opened.{open-lossless, open-mask}
 use Rattle.biased_demotion.proofs.next.opens.Goals as goal
 
 pub returns-then-l_mask-ne0 : goal.returns-then-l_mask-ne0
