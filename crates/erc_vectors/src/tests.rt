@@ -72,6 +72,7 @@ fn a_hierarchy_satisfies_by_strict_strata(rt: HostRuntime) {
         ("W above L", [W, L, E], [1, 2, 1], true, 2),
         ("W beside L", [W, L, E], [1, 1, 1], false, 1),
         ("W below one L", [W, L, L], [2, 3, 1], false, 3),
+        ("one of two W's above L", [W, W, L], [3, 1, 2], true, 3),
         ("no W", [L, E, E], [2, 1, 1], false, 2),
         ("no L", [W, E, E], [2, 1, 1], true, 2),
     ] {
@@ -79,6 +80,16 @@ fn a_hierarchy_satisfies_by_strict_strata(rt: HostRuntime) {
         let strata = strata(&rt, &levels);
         assert_eq!(rt; strata.satisfies(&condition), satisfied, "{name}");
         assert_eq!(rt; strata.lowest(), lowest, "{name}");
+    }
+    let condition = Condition::of_masks(LIMIT, 1, 1 << (LIMIT - 1));
+    for (name, last, satisfied) in [
+        ("the last of as many as the limit beside", 1, false),
+        ("the last of as many as the limit below", 2, true),
+    ] {
+        let mut levels = [1; LIMIT];
+        levels[LIMIT - 1] = last;
+        let strata = Strata::of(&levels).expect(&rt, "as many levels as the limit");
+        assert_eq!(rt; strata.satisfies(&condition), satisfied, "{name}");
     }
 }
 
