@@ -8,5 +8,5 @@ pub mod Named
 pub mod FromDeeds
 pub mod Choices
 pub mod Sieving
-pub mod Lanes
 pub mod Passing
+pub mod Admitting

@@ -1,13 +1,13 @@
 -- The bits of the certificates that refute a prefix are among its own.
-use Rattle.std.proofs.Common.{◌≡◌, ◌≢◌, ℕ, ◌+◌, ◌<◌, List, [], ◌∷◌, ◌++◌, true, false, Bool, arith, refl, ◌∙◌, ap, subst, inl, inr, length, set, take, get_or, slice_index}
+use Rattle.std.proofs.Common.{◌≡◌, ℕ, ◌+◌, ◌<◌, List, [], ◌∷◌, ◌++◌, true, arith, refl, ◌∙◌, ap, subst, inl, inr, length, take, get_or, slice_index}
 use Rattle.std.specs.Prelude.{All, bit_or, slice_index_or}
-use Rattle.std.proofs.lemmas.Bool.{and_parts, cases_eq, cases_lt, false_from_ne_true}
-use Rattle.std.proofs.lemmas.List.{get_or_append_left, get_or_at, get_or-set_same, get_or-set_other, length_push, length-set, take_more}
+use Rattle.std.proofs.lemmas.Bool.{and_parts, cases_lt}
+use Rattle.std.proofs.lemmas.List.{get_or_append_left, get_or_at, length_push, take_more}
 use Rattle.std.proofs.lemmas.List.Elements.{All-nil, All-cons}
 use Rattle.std.proofs.lemmas.Nat.Bits.{bit_at_or, bit_at-zero, same_from_bits}
 use Rattle.ot_theory.specs.Languages.{Term}
 use Rattle.ot_theory.specs.Refutations.{refutes}
-use Rattle.search_deeds.specs.Sieved.{choice_bit, AreAmong, HasBits, IsMarkOf, AreMarks, AreMarked, IsSieve}
+use Rattle.search_deeds.specs.Sieved.{choice_bit, AreAmong, HasBits, IsMarkOf, AreMarks, IsSieve}
 use Rattle.search_deeds.proofs.Choices.{is_made, made_at, nothing}
 
 -- ---- words among others
@@ -73,48 +73,5 @@ IsSieve-marks certificates prefix places marks bits h has = record {
   passed = λ k below made. absorbed (slice_index marks k) bits ((h.each k below).least bits (made-bits prefix bits (slice_index_or certificates (slice_index places k) []) has made));
 }
 
--- one that lacks a bit does not refute the prefix
-pub sorted-out : (refuting : Bool) (mark bits : ℕ) → (refuting ≡ true → bit_or mark bits ≡ bits) → bit_or mark bits ≢ bits → refuting ≡ false
-sorted-out refuting mark bits passed lacks = false_from_ne_true refuting (λ h. lacks (passed h))
-
 pub AreMarks-none : (certificates : List (List Term)) → AreMarks certificates [] []
 AreMarks-none certificates = record { long = refl; each = λ k below. absurd (omega arith) }
-
-pub AreMarked-none : (places marks : List (List ℕ)) → length marks ≡ length places → ((b : ℕ) → slice_index_or places b [] ≡ []) → ((b : ℕ) → slice_index_or marks b [] ≡ []) → AreMarked [] places marks
-AreMarked-none places marks long none unmarked = record { long = long; each = λ b. rw (none b, unmarked b) (AreMarks-none []) }
-
-marks-more : (certificates : List (List Term)) (terms : List Term) (places marks : List ℕ) → All (λ place. place < length certificates) places → AreMarks certificates places marks → AreMarks (certificates ++ terms ∷ []) places marks
-marks-more certificates terms places marks within h = record {
-  long = h.long;
-  each = λ k below. rw (get_or_append_left certificates (terms ∷ []) [] (slice_index places k) (within k 0 below)) (h.each k below);
-}
-
-marks-push : (certificates : List (List Term)) (terms : List Term) (places marks : List ℕ) (mark : ℕ) → IsMarkOf terms mark → All (λ place. place < length certificates) places → AreMarks certificates places marks
-    → AreMarks (certificates ++ terms ∷ []) (places ++ length certificates ∷ []) (marks ++ mark ∷ [])
-marks-push certificates terms places marks mark its within h = record {
-  long = omega (arith, h.long, length_push places (length certificates), length_push marks mark);
-  each = λ k below. elim (cases_lt k (length places)) [
-    | inl before ↦ rw (get_or_append_left places (length certificates ∷ []) 0 k before, get_or_append_left marks (mark ∷ []) 0 k (omega (arith, h.long)), get_or_append_left certificates (terms ∷ []) [] (slice_index places k) (within k 0 before)) (h.each k before)
-    | inr behind ↦
-        let same : k ≡ length places = omega (arith, length_push places (length certificates)) in
-        rw (same, get_or_at places (length certificates) [] 0 (length places) refl, get_or_at marks mark [] 0 (length places) h.long, get_or_at certificates terms [] [] (length certificates) refl) its
-  ];
-}
-
-pub AreMarked-push : (certificates : List (List Term)) (terms : List Term) (places more_places marks more_marks : List (List ℕ)) (b mark : ℕ) → IsMarkOf terms mark → ((c : ℕ) → All (λ place. place < length certificates) (slice_index_or places c []))
-    → b < length places → more_places ≡ set places b (slice_index_or places b [] ++ length certificates ∷ []) → more_marks ≡ set marks b (slice_index_or marks b [] ++ mark ∷ []) → AreMarked certificates places marks → AreMarked (certificates ++ terms ∷ []) more_places more_marks
-AreMarked-push certificates terms places more_places marks more_marks b mark its within below e f h =
-    let place_list : List ℕ = slice_index_or places b [] ++ length certificates ∷ [] in
-    let mark_list : List ℕ = slice_index_or marks b [] ++ mark ∷ [] in
-    let places_here : slice_index_or more_places b [] ≡ place_list = rw e (get_or-set_same places b place_list [] below) in
-    let marks_here : slice_index_or more_marks b [] ≡ mark_list = rw f (get_or-set_same marks b mark_list [] (omega (arith, h.long))) in
-    record {
-      long = rw (e, f, length-set places b place_list, length-set marks b mark_list) h.long;
-      each = λ c. elim (cases_eq c b) [
-        | inl same ↦ rw (same, places_here, marks_here) (marks-push certificates terms (slice_index_or places b []) (slice_index_or marks b []) mark its (within b) (h.each b))
-        | inr other ↦
-            let place_others : slice_index_or more_places c [] ≡ slice_index_or places c [] = rw e (get_or-set_other places b c place_list [] other) in
-            let mark_others : slice_index_or more_marks c [] ≡ slice_index_or marks c [] = rw f (get_or-set_other marks b c mark_list [] other) in
-            rw (place_others, mark_others) (marks-more certificates terms (slice_index_or places c []) (slice_index_or marks c []) (within c) (h.each c))
-      ];
-    }

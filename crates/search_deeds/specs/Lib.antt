@@ -4,3 +4,4 @@ pub mod Indexed
 pub mod Sieved
 pub mod Places
 pub mod Made
+pub mod Admitted

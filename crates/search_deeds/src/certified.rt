@@ -10,11 +10,11 @@ ghost use Rattle.search_deeds.specs.Gathered.{AreGenuine, AreNamed, IsCertified,
 ghost use Rattle.search_deeds.specs.Indexed.{HoldsRefuting};
 ghost use Rattle.search_deeds.specs.Made.{AreMade};
 ghost use Rattle.search_deeds.specs.Places.{IsIndexOf};
-ghost use Rattle.search_deeds.specs.Sieved.{IsSieve};
+ghost use Rattle.search_deeds.specs.Admitted.{AreBlocks};
 
+use crate::blocks::{Block, next_admitted};
 use crate::index::Index;
 use crate::ready::Ready;
-use crate::sieve::{bits_of, next_within};
 use erc_vectors::{List, NoMemory};
 use ot_base::ClassId;
 use refutation::{Contradiction, Cut, Prefix, refutes};
@@ -79,9 +79,8 @@ fn name_certificate(
     ensures made { AreMade p.now ready.new }
 {
     let classes = prefix.as_slice();
-    let (places, marks) = index.bucket_for(p, classes);
-    let bits = bits_of(classes);
-    if let Some(place) = place_of(certificates.as_slice(), places, marks, classes, bits) {
+    let (places, blocks) = index.bucket_for(p, classes);
+    if let Some(place) = place_of(certificates.as_slice(), places, blocks, classes) {
         return Ok(place);
     }
     let place = certificates.len();
@@ -91,28 +90,27 @@ fn name_certificate(
     Ok(place)
 }
 
-/// The place of the first contradiction that refutes a prefix. Those that do are at these places, beside which stand the bits
-/// that they ask for, and those of the prefix are these.
+/// The place of the first contradiction that refutes a prefix. Those that do are at these places, of which these are the blocks.
 #[tactic(auto, using(crate::proofs::Passing::none_yet))]
 pub fn place_of(
     certificates: &[Contradiction],
     places: &[usize],
-    marks: &[u64],
+    blocks: &[Block],
     prefix: &[ClassId],
-    bits: u64,
 ) -> Option<usize>
     requires refuting { HoldsRefuting (certificates_of certificates.now) (class_numbers prefix.now) places.now }
-    requires sieve { IsSieve (certificates_of certificates.now) (class_numbers prefix.now) places.now marks.now bits }
+    requires blocked { AreBlocks (certificates_of certificates.now) places.now blocks.now }
     ensures some { IfSome result (λ place. (place ≡ first_refuting (certificates_of certificates.now) (class_numbers prefix.now)) × (place < length certificates.now)) }
     ensures none { IfNone result (first_refuting (certificates_of certificates.now) (class_numbers prefix.now) ≡ length certificates.now) }
 {
-    let mut k = next_within(marks, 0, bits);
-    while k < marks.len() {
+    let count = places.len();
+    let mut k = next_admitted(blocks, 0, count, prefix);
+    while k < count {
         let place = places[k];
         if refutes(&certificates[place], prefix) {
             return Some(place);
         }
-        k = next_within(marks, k + 1, bits);
+        k = next_admitted(blocks, k + 1, count, prefix);
     }
     None
 }

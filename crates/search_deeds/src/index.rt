@@ -9,9 +9,9 @@ ghost use Rattle.violation_profiles.specs.WellFormed.{IsPrefix};
 ghost use Rattle.refutation.specs.Prefixes.{class_numbers};
 ghost use Rattle.refutation.specs.Terms.{terms_in};
 ghost use Rattle.search_deeds.specs.Indexed.{is_last, HoldsRefuting, IsIndex, IsLaidOut};
-ghost use Rattle.search_deeds.specs.Sieved.{AreMarked, AreMarks};
+ghost use Rattle.search_deeds.specs.Admitted.{AreBlocked, AreBlocks, HaveRoom};
 
-use crate::sieve::mark_of;
+use crate::blocks::{Block, Blocks};
 use erc_vectors::{List, NoMemory};
 use ot_base::{ClassId, INPUT_LIMIT, InId};
 use refutation::Term;
@@ -25,40 +25,39 @@ pub struct Index {
     pub widest: usize,
     /// The places, in ascending order, of class a of input i at i * widest + a.
     pub places: Vec<List<usize>>,
-    /// Beside each place the bits of the choices that the certificate asks for.
-    pub marks: Vec<List<u64>>,
+    /// Beside each list of places what its certificates ask for, as bits.
+    pub blocks: Vec<Blocks>,
 }
 
 impl Index {
     /// The index of no certificates.
     pub fn new(alloc: Global, p: &Problem) -> Result<Index, NoMemory>
         ensures places { IfOk result (λ index. IsIndex p.now [] index.widest index.places.items) }
-        ensures marks { IfOk result (λ index. AreMarked [] index.places.items index.marks.items) }
+        ensures blocked { IfOk result (λ index. AreBlocked [] index.places.items index.blocks.items) }
     {
         let widest = widest(p);
         let mut places = Vec::new(alloc);
-        let mut marks = Vec::new(alloc);
+        let mut blocks = Vec::new(alloc);
         for _ in 0..p.inputs() * widest {
             places.push(List::new(alloc))?;
-            marks.push(List::new(alloc))?;
+            blocks.push(Blocks::none(alloc))?;
         }
         Ok(Index {
             widest,
             places,
-            marks,
+            blocks,
         })
     }
 
     /// The places of the certificates that give the last input of a prefix its last class as its winner, and no later one any,
-    /// and beside them the bits that each of these asks for. Where no shorter front of the prefix is refuted, those that refute
-    /// it are among them.
-    pub fn bucket_for(&self, p: &Problem, prefix: &[ClassId]) -> (&[usize], &[u64])
+    /// and beside them their blocks. Where no shorter front of the prefix is refuted, those that refute it are among them.
+    pub fn bucket_for(&self, p: &Problem, prefix: &[ClassId]) -> (&[usize], &[Block])
         requires prefix { IsPrefix p.now (class_numbers prefix.now) }
         requires laid_out { IsLaidOut p.now self.now.widest self.now.places.items }
-        requires as_long { length self.now.marks.items ≡ length self.now.places.items }
+        requires as_long { length self.now.blocks.items ≡ length self.now.places.items }
         ensures refuting { (certificates : List (List theory.Term)) → IsIndex p.now certificates self.now.widest self.now.places.items → All (λ terms. is_contradiction p.now terms ≡ true) certificates
             → ((k : ℕ) → k < length prefix.now → refuted p.now (take k (class_numbers prefix.now)) ≡ false) → HoldsRefuting certificates (class_numbers prefix.now) result.0.now }
-        ensures marks { (certificates : List (List theory.Term)) → AreMarked certificates self.now.places.items self.now.marks.items → AreMarks certificates result.0.now result.1.now }
+        ensures blocked { (certificates : List (List theory.Term)) → AreBlocked certificates self.now.places.items self.now.blocks.items → AreBlocks certificates result.0.now result.1.now }
     {
         prove!(prefix.len() <= p.inputs());
         if prefix.is_empty() {
@@ -68,7 +67,7 @@ impl Index {
         let bucket = input * self.widest + prefix[input].0 as usize;
         (
             self.places[bucket].as_slice(),
-            self.marks[bucket].as_slice(),
+            self.blocks[bucket].as_slice(),
         )
     }
 
@@ -76,17 +75,18 @@ impl Index {
     pub fn add(&mut self, p: &Problem, terms: &[Term], place: usize) -> Result<(), NoMemory>
         requires genuine { is_contradiction p.now (terms_in terms.now) ≡ true }
         requires laid_out { IsLaidOut p.now self.old.widest self.old.places.items }
-        requires as_long { length self.old.marks.items ≡ length self.old.places.items }
+        requires room { HaveRoom self.old.places.items self.old.blocks.items }
         ensures places { OnOk result ((certificates : List (List theory.Term)) → length certificates ≡ place → IsIndex p.now certificates self.old.widest self.old.places.items
             → IsIndex p.now (certificates ++ terms_in terms.now ∷ []) self.new.widest self.new.places.items) }
-        ensures marks { OnOk result ((certificates : List (List theory.Term)) → length certificates ≡ place → IsIndex p.now certificates self.old.widest self.old.places.items → AreMarked certificates self.old.places.items self.old.marks.items
-            → AreMarked (certificates ++ terms_in terms.now ∷ []) self.new.places.items self.new.marks.items) }
+        ensures blocked { OnOk result ((certificates : List (List theory.Term)) → length certificates ≡ place → IsIndex p.now certificates self.old.widest self.old.places.items → AreBlocked certificates self.old.places.items self.old.blocks.items
+            → AreBlocked (certificates ++ terms_in terms.now ∷ []) self.new.places.items self.new.blocks.items) }
     {
         prove!(p.inputs() <= INPUT_LIMIT);
         let (input, winner) = last_choice(terms);
         let bucket = input * self.widest + winner;
-        self.places[bucket].push(place)?;
-        self.marks[bucket].push(mark_of(terms))
+        let count = self.places[bucket].len();
+        self.blocks[bucket].add(count, terms, input)?;
+        self.places[bucket].push(place)
     }
 }
 

@@ -9,6 +9,7 @@
 //! this project's own.
 #![tactic(auto)]
 
+mod blocks;
 mod certified;
 mod collecting;
 mod deed;
@@ -19,10 +20,11 @@ mod ready;
 mod shared;
 mod sieve;
 
+pub use blocks::{Block, Blocks, Row};
 pub use certified::place_of;
 pub use deed::{Deed, Deeds, Fate};
 pub use gathering::gather;
 pub use index::{Index, widest};
 pub use ready::Ready;
 pub use shared::deeds_go;
-pub use sieve::{bits_of, mark_of, with_choice};
+pub use sieve::{bits_of, mark_of};

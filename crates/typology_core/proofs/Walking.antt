@@ -32,7 +32,7 @@ use Rattle.refutation.proofs.TermsOfPrefixes.{certificate-refutes, made-one, ter
 use Rattle.search_deeds.specs.Gathered.{AreGenuine, IsCertified, first_refuting}
 use Rattle.search_deeds.specs.Indexed.{IsIndex}
 use Rattle.search_deeds.specs.Places.{IsIndexOf}
-use Rattle.search_deeds.specs.Sieved.{AreMarked}
+use Rattle.search_deeds.specs.Admitted.{AreBlocked}
 use Rattle.search_deeds.specs.declared.index.Index.{Index}
 use Rattle.typology_core.specs.Below.{cuts_below, languages_below}
 use Rattle.typology_core.specs.Walked.{AreAllBelow, AreMore, IsDone, IsEntered, IsFoundOf, IsPathOf, IsReached, IsSamePath, choices_of, cut_prefixes, prefix_of}
@@ -140,10 +140,10 @@ asked-child problem prefix i a terms conditions long h = rw (terms_of-push probl
 
 -- the index with the new certificate
 pub index-new : (problem : Problem) (old new : Found) (core : Contradiction) (index : Index) (terms : List program.Term) → new.certificates ≡ old.certificates ++ core ∷ [] → new.index ≡ index → terms ≡ core.terms
-    → IsIndex problem (certificates_of old.certificates ++ terms_in terms ∷ []) index.widest index.places.items → AreMarked (certificates_of old.certificates ++ terms_in terms ∷ []) index.places.items index.marks.items → IsIndexOf problem new.certificates new.index
+    → IsIndex problem (certificates_of old.certificates ++ terms_in terms ∷ []) index.widest index.places.items → AreBlocked (certificates_of old.certificates ++ terms_in terms ∷ []) index.places.items index.blocks.items → IsIndexOf problem new.certificates new.index
 index-new problem old new core index terms certificates same those h m =
     let more : certificates_of new.certificates ≡ certificates_of old.certificates ++ terms_in core.terms ∷ [] = ap certificates_of certificates ∙ map-append (λ (c : Contradiction). terms_in c.terms) old.certificates (core ∷ []) in
-    rw same (record { places = rw (more, ← those) h; marks = rw (more, ← those) m })
+    rw same (record { places = rw (more, ← those) h; blocked = rw (more, ← those) m })
 
 pub cut-same : (p q : List ℕ) (m n : ℕ) → p ≡ q → m ≡ n → ◌≡◌ {A = Cut} (record { prefix = p; certificate = m }) (record { prefix = q; certificate = n })
 cut-same p q m n e f = rw (e, f) refl

@@ -18,14 +18,13 @@ ghost use Rattle.refutation.specs.Prefixes.{class_numbers};
 ghost use Rattle.refutation.specs.Typologies.{certificates_of, cuts_of, found_of};
 ghost use Rattle.search_deeds.specs.Gathered.{first_refuting};
 ghost use Rattle.search_deeds.specs.Made.{AreMade};
-ghost use Rattle.search_deeds.specs.Sieved.{HasBits};
 ghost use Rattle.typology_core.specs.Walked.{AreAllBelow, AreMore, IsDone, IsEntered, IsFoundOf, IsJudged, IsLower, IsPathOf, IsReached, IsSamePath, IsSettled, IsToOpen, prefix_of};
 
 use demotion::least_hierarchy;
 use erc_vectors::{Condition, List, NoMemory, Strata};
 use ot_base::{ClassId, INPUT_LIMIT, InId};
 use refutation::{Asked, Contradiction, Cut, Language, Prefix, core_of_conditions};
-use search_deeds::{Index, Ready, bits_of, place_of, with_choice};
+use search_deeds::{Index, Ready, place_of};
 use std::alloc::Global;
 use violation_profiles::Problem;
 
@@ -62,18 +61,16 @@ pub(crate) fn walk(
 {
     let hierarchy = hierarchy_of(p, path);
     if let Some(strata) = holds(alloc, p, path, &hierarchy, found)? {
-        let bits = bits_of(path.classes.as_slice());
-        visit(alloc, p, bits, &strata, ready, path, found)?;
+        visit(alloc, p, &strata, ready, path, found)?;
     }
     Ok(())
 }
 
-/// Adds the languages and the cuts that extend a prefix which is not refuted and is no full choice, whose choices have these
-/// bits, and whose conditions have this least hierarchy.
+/// Adds the languages and the cuts that extend a prefix which is not refuted and is no full choice, and whose conditions have
+/// this least hierarchy.
 fn visit(
     alloc: Global,
     p: &Problem,
-    bits: u64,
     strata: &Strata,
     ready: &mut Ready,
     path: &mut Path,
@@ -83,7 +80,6 @@ fn visit(
     requires path { IsPathOf p.now path.old }
     requires held { refuted p.now (prefix_of path.old) ≡ false }
     requires shorter { length path.old.classes.items < length p.now.inputs }
-    requires bits { HasBits (prefix_of path.old) bits }
     requires least { IsLeastHierarchy p.now.constraints (conditions_of p.now (prefix_of path.old)) strata.now }
     requires found { IsFoundOf p.now found.old }
     ensures found { OnOk result (IsFoundOf p.now found.new) }
@@ -96,9 +92,8 @@ fn visit(
     for a in 0..p.classes(input) {
         let class = ClassId(a as u16);
         let terms = path.asked.terms.len();
-        let longer = with_choice(bits, input, class);
-        if let Some(lower) = enter(alloc, p, class, longer, strata, ready, path, found)? {
-            visit(alloc, p, longer, &lower, ready, path, found)?;
+        if let Some(lower) = enter(alloc, p, class, strata, ready, path, found)? {
+            visit(alloc, p, &lower, ready, path, found)?;
             leave(path, input, terms);
         }
     }
@@ -186,7 +181,6 @@ fn enter(
     alloc: Global,
     p: &Problem,
     class: ClassId,
-    bits: u64,
     strata: &Strata,
     ready: &mut Ready,
     path: &mut Path,
@@ -197,19 +191,17 @@ fn enter(
     requires held { refuted p.now (prefix_of path.old) ≡ false }
     requires shorter { length path.old.classes.items < length p.now.inputs }
     requires class { class.0 < length (classes_at p.now (length path.old.classes.items)) }
-    requires bits { HasBits (prefix_of path.old ++ class.0 ∷ []) bits }
     requires least { IsLeastHierarchy p.now.constraints (conditions_of p.now (prefix_of path.old)) strata.now }
     requires found { IsFoundOf p.now found.old }
     ensures entered { IfOk result (λ entered. IfSome entered (λ lower. IsEntered p.now class.0 path.old path.new found.old found.new)) }
     ensures least { IfOk result (λ entered. IfSome entered (λ lower. IsLeastHierarchy p.now.constraints (conditions_of p.now (prefix_of path.new)) lower)) }
-    ensures bits { IfOk result (λ entered. IfSome entered (λ lower. HasBits (prefix_of path.new) bits)) }
     ensures settled { IfOk result (λ entered. IfNone entered (IsDone p.now class.0 path.old path.new found.old found.new)) }
     ensures made { OnOk result (AreMade p.now ready.new) }
 {
     prove!(p.inputs() <= INPUT_LIMIT);
     let input = InId(path.classes.len() as u32);
     go_on(&mut path.classes, class)?;
-    if let Some(place) = found.place_of(p, path.classes.as_slice(), bits) {
+    if let Some(place) = found.place_of(p, path.classes.as_slice()) {
         found.add_cut(alloc, path.classes.as_slice(), place)?;
         path.classes.truncate(input.0 as usize);
         return Ok(None);
@@ -317,15 +309,14 @@ impl Found {
     }
 
     /// The place of the first certificate that refutes a prefix.
-    fn place_of(&self, p: &Problem, classes: &[ClassId], bits: u64) -> Option<usize>
+    fn place_of(&self, p: &Problem, classes: &[ClassId]) -> Option<usize>
         requires reached { IsReached p.now (class_numbers classes.now) }
         requires found { IsFoundOf p.now self.now }
-        requires bits { HasBits (class_numbers classes.now) bits }
         ensures some { IfSome result (λ place. (place ≡ first_refuting (certificates_of self.now.certificates) (class_numbers classes.now)) × (place < length self.now.certificates)) }
         ensures none { IfNone result (first_refuting (certificates_of self.now.certificates) (class_numbers classes.now) ≡ length self.now.certificates) }
     {
-        let (places, marks) = self.index.bucket_for(p, classes);
-        place_of(self.certificates.as_slice(), places, marks, classes, bits)
+        let (places, blocks) = self.index.bucket_for(p, classes);
+        place_of(self.certificates.as_slice(), places, blocks, classes)
     }
 
     /// Adds a cut that names a certificate.

@@ -9,7 +9,7 @@ use Rattle.refutation.specs.Terms.{terms_in}
 use Rattle.refutation.specs.Typologies.{certificates_of}
 use Rattle.refutation.specs.Prefixes.{class_numbers}
 use Rattle.search_deeds.proofs.Named.{listed-new, listed-old}
-use Rattle.search_deeds.proofs.Sieving.{IsSieve-marks}
+use Rattle.search_deeds.proofs.Admitting.{HaveRoom-blocked}
 use Rattle.search_deeds.proofs.certified.name_certificate.Goals as goal
 
 pub returns-in-Some-clause-listed : goal.returns-in-Some-clause-listed
@@ -30,7 +30,8 @@ place_of-requires-clause-refuting c =
     rw c.as_slice.ensures (c.bucket_for.ensures.refuting (certificates_of certificates) c.requires.indexed.places genuine
     (λ k below. rw c.as_slice-classes.ensures (c.requires.shortest k (omega (arith, long)))))
 
-pub place_of-requires-clause-sieve : goal.place_of-requires-clause-sieve
-place_of-requires-clause-sieve c =
-    let certificates = c.args.certificates.now in
-    rw c.as_slice.ensures (IsSieve-marks (certificates_of certificates) (class_numbers c.as_slice-classes.result.now) c.bucket_for.result.0.now c.bucket_for.result.1.now c.bits_of-bits.result (c.bucket_for.ensures.marks (certificates_of certificates) c.requires.indexed.marks) c.bits_of-bits.ensures)
+pub place_of-requires-clause-blocked : goal.place_of-requires-clause-blocked
+place_of-requires-clause-blocked c = rw c.as_slice.ensures (c.bucket_for.ensures.blocked (certificates_of c.args.certificates.now) c.requires.indexed.blocked)
+
+pub add-requires-clause-room : goal.add-requires-clause-room
+add-requires-clause-room c = HaveRoom-blocked (certificates_of c.args.certificates.now) _ _ c.requires.indexed.blocked

@@ -18,7 +18,7 @@ pub returns-then-refutes-clause-some : goal.returns-then-refutes-clause-some
 returns-then-refutes-clause-some c =
     let certificates = c.args.certificates.now in
     let k = c.loop-k.k in
-    let within : k < length c.args.places.now = omega (arith, c.requires.sieve.long, c.loop-k-test.true) in
+    let within : k < length c.args.places.now = omega (arith, c.loop-k-test.true) in
     let place : slice_index c.args.places.now k < length certificates = omega (arith, c.requires.refuting.within k 0 within, length-map certificates (λ (d : Contradiction). terms_in d.terms)) in (
       sym (first-found (certificates_of certificates) (class_numbers c.args.prefix.now) c.args.places.now k c.requires.refuting within c.loop-k.invariant.each
           (told certificates (class_numbers c.args.prefix.now) (slice_index c.args.places.now k) c.index-certificates-place.result c.refutes.result place c.index-certificates-place.is c.refutes.ensures ∙ c.if-refutes.true)),
@@ -29,14 +29,14 @@ pub loop-k-preserved : goal.loop-k-preserved
 loop-k-preserved c =
     let certificates = c.args.certificates.now in
     let k = c.loop-k.k in
-    let within : k < length c.args.places.now = omega (arith, c.requires.sieve.long, c.loop-k-test.true) in
+    let within : k < length c.args.places.now = omega (arith, c.loop-k-test.true) in
     let place : slice_index c.args.places.now k < length certificates = omega (arith, c.requires.refuting.within k 0 within, length-map certificates (λ (d : Contradiction). terms_in d.terms)) in
-    NoneRefutes-passed (certificates_of certificates) (class_numbers c.args.prefix.now) c.args.places.now c.args.marks.now c.args.bits (k + 1) c.next_within-k-in-loop-k.result c.requires.sieve
-    c.next_within-k-in-loop-k.ensures.onward c.next_within-k-in-loop-k.ensures.within c.next_within-k-in-loop-k.ensures.passed
-    (NoneRefutes-one (certificates_of certificates) (class_numbers c.args.prefix.now) c.args.places.now c.args.marks.now k (omega (arith, c.loop-k-test.true))
+    NoneRefutes-passed (certificates_of certificates) (class_numbers c.args.prefix.now) c.args.places.now c.args.blocks.now (k + 1) c.next_admitted-k-in-loop-k.result c.requires.blocked
+    c.next_admitted-k-in-loop-k.ensures.onward c.next_admitted-k-in-loop-k.ensures.within c.next_admitted-k-in-loop-k.ensures.passed
+    (NoneRefutes-one (certificates_of certificates) (class_numbers c.args.prefix.now) c.args.places.now k within
     (told certificates (class_numbers c.args.prefix.now) (slice_index c.args.places.now k) c.index-certificates-place.result c.refutes.result place c.index-certificates-place.is c.refutes.ensures ∙ c.if-refutes.false) c.loop-k.invariant)
 
 pub returns-clause-none : goal.returns-clause-none
 returns-clause-none c =
-    first-none (certificates_of c.args.certificates.now) (class_numbers c.args.prefix.now) c.args.places.now c.requires.refuting (λ j below. c.loop-k.invariant.each j (omega (arith, c.requires.sieve.long, c.loop-k-test.false)))
+    first-none (certificates_of c.args.certificates.now) (class_numbers c.args.prefix.now) c.args.places.now c.requires.refuting (λ j below. c.loop-k.invariant.each j (omega (arith, c.loop-k-test.false)))
     ∙ length-map c.args.certificates.now _

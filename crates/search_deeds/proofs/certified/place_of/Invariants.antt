@@ -6,7 +6,7 @@ use Rattle.search_deeds.proofs.Passing.{NoneRefutes}
 use Rattle.search_deeds.proofs.certified.place_of.Given as goal
 
 abbrev pub invariant-loop-k : goal.invariant-loop-k
-invariant-loop-k l = NoneRefutes (certificates_of l.certificates) (class_numbers l.prefix) l.places l.marks l.k
+invariant-loop-k l = NoneRefutes (certificates_of l.certificates) (class_numbers l.prefix) l.places l.k
 
 abbrev pub decreases-loop-k : goal.decreases-loop-k
-decreases-loop-k l = length l.marks - l.k
+decreases-loop-k l = length l.places - l.k

@@ -14,10 +14,6 @@ place_of-requires-clause-reached c =
     let path = c.args.path.now in
     rw (child-of path c.as_slice.result.now c.go_on.new.classes.items c.args.class c.in_ok-go_on.ensures c.as_slice.ensures.value) (path-child c.args.p.now path c.args.class.0 c.requires.path c.requires.held c.requires.shorter c.requires.class)
 
-pub place_of-requires-clause-bits : goal.place_of-requires-clause-bits
-place_of-requires-clause-bits c =
-    rw (child-of c.args.path.now c.as_slice.result.now c.go_on.new.classes.items c.args.class c.in_ok-go_on.ensures c.as_slice.ensures.value) c.requires.bits
-
 pub returns-in-Some-clause-settled : goal.returns-in-Some-clause-settled
 returns-in-Some-clause-settled c =
     let problem = c.args.p.now in

@@ -6,6 +6,6 @@ abbrev pub invariant-loop : goal.invariant-loop
 invariant-loop l = record {
   long : length l.places.items ≡ l.counter;
   none : (b : ℕ) → get_or l.places.items b [] ≡ [];
-  as_long : length l.marks.items ≡ length l.places.items;
-  no_marks : (b : ℕ) → get_or l.marks.items b [] ≡ [];
+  as_long : length l.blocks.items ≡ length l.places.items;
+  no_blocks : (b : ℕ) → get_or l.blocks.items b [] ≡ [];
 }

@@ -12,6 +12,7 @@ use Rattle.ot_theory.specs.Refutations.{certificate_of}
 use Rattle.typology_core.specs.Walked.{prefix_of}
 use Rattle.refutation.specs.Terms.{terms_in, are_terms}
 use Rattle.ot_theory.proofs.Sets.{is_hopeless}
+use Rattle.search_deeds.proofs.Admitting.{HaveRoom-blocked}
 use Rattle.typology_core.proofs.Walking.{path-genuine, path-one, path-hopeless, path-certificate, with-new-cut, IsWithCut, index-new, cut-same}
 use Rattle.typology_core.proofs.walk.Found.add_certificate.Goals as goal
 
@@ -31,6 +32,9 @@ core_of_conditions-requires-clause-conditions c = c.in_ok-conditions.ensures ∙
 pub core_of_conditions-requires-clause-widths : goal.core_of_conditions-requires-clause-widths
 core_of_conditions-requires-clause-widths c = rw (c.in_ok-conditions.ensures ∙ c.as_slice.ensures.value) c.requires.path.asked.widths
 
+pub add-requires-clause-room : goal.add-requires-clause-room
+add-requires-clause-room c = HaveRoom-blocked (certificates_of c.args.self.now.certificates) _ _ c.requires.found.indexed.blocked
+
 with_cut : (c : goal.After-add_cut) → OnOk c.add_cut.result (IsWithCut c.args.p.now (prefix_of c.args.path.now) c.args.self.now c.add_cut.new.self)
 with_cut c =
     let problem = c.args.p.now in
@@ -40,9 +44,9 @@ with_cut c =
     let certificates : c.add_cut.new.self.certificates ≡ c.args.self.now.certificates ++ core ∷ [] = c.add_cut.ensures.certificates ∙ c.in_ok-push.ensures.ok in
     let count = length-map c.args.self.now.certificates (λ (d : Contradiction). terms_in d.terms) ∙ sym c.len-place.ensures in
     let indexed = c.in_ok-add.ensures.places (certificates_of c.args.self.now.certificates) count c.requires.found.indexed.places in
-    let marked = c.in_ok-add.ensures.marks (certificates_of c.args.self.now.certificates) count c.requires.found.indexed.places c.requires.found.indexed.marks in
+    let blocked = c.in_ok-add.ensures.blocked (certificates_of c.args.self.now.certificates) count c.requires.found.indexed.places c.requires.found.indexed.blocked in
     on_ok_weaker c.add_cut.result (λ pushed. with-new-cut problem c.args.self.now c.add_cut.new.self (prefix_of path) core c.requires.found c.requires.fresh own c.in_ok-certificate.ensures.contradiction certificates
-    (index-new problem c.args.self.now c.add_cut.new.self core c.add.new.self c.as_slice-3.result.now certificates c.add_cut.ensures.index c.as_slice-3.ensures indexed marked)
+    (index-new problem c.args.self.now c.add_cut.new.self core c.add.new.self c.as_slice-3.result.now certificates c.add_cut.ensures.index c.as_slice-3.ensures indexed blocked)
     (pushed ∙ ap (λ (cut : Cut). c.args.self.now.cuts ++ cut ∷ []) (cut-same (class_numbers c.as_slice-4.result.now) (prefix_of path) c.len-place.result (length c.args.self.now.certificates) (ap class_numbers c.as_slice-4.ensures.value) c.len-place.ensures))
     c.add_cut.ensures.languages) c.add_cut.ensures.cuts
 

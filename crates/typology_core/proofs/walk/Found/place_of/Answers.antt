@@ -8,7 +8,6 @@ use Rattle.refutation.specs.declared.contradiction.Contradiction.{Contradiction}
 use Rattle.refutation.specs.Prefixes.{class_numbers}
 use Rattle.refutation.specs.Terms.{terms_in}
 use Rattle.refutation.specs.Typologies.{certificates_of}
-use Rattle.search_deeds.proofs.Sieving.{IsSieve-marks}
 use Rattle.typology_core.proofs.walk.Found.place_of.Goals as goal
 
 pub place_of-requires-clause-refuting : goal.place_of-requires-clause-refuting
@@ -19,7 +18,5 @@ place_of-requires-clause-refuting c =
     rw c.as_slice.ensures (c.bucket_for.ensures.refuting (certificates_of certificates) c.requires.found.indexed.places genuine
     (λ k below. c.requires.reached.first k (omega (arith, below, length-map c.args.classes.now (λ (class : ClassId). class.0)))))
 
-pub place_of-requires-clause-sieve : goal.place_of-requires-clause-sieve
-place_of-requires-clause-sieve c =
-    let certificates = c.args.self.now.certificates in
-    rw c.as_slice.ensures (IsSieve-marks (certificates_of certificates) (class_numbers c.args.classes.now) c.bucket_for.result.0.now c.bucket_for.result.1.now c.args.bits (c.bucket_for.ensures.marks (certificates_of certificates) c.requires.found.indexed.marks) c.requires.bits)
+pub place_of-requires-clause-blocked : goal.place_of-requires-clause-blocked
+place_of-requires-clause-blocked c = rw c.as_slice.ensures (c.bucket_for.ensures.blocked (certificates_of c.args.self.now.certificates) c.requires.found.indexed.blocked)
