@@ -13,6 +13,7 @@ const STEP: usize = 8;
 
 /// The numbers of the classes, by input, and a dash where there are none. The text of the prefix before, each number behind a space,
 /// is kept and becomes that of this one: mostly they have a long front in common, which is not written anew.
+#[inline(always)]
 pub(crate) fn put_prefix(
     text: &mut Text,
     kept: &mut Text,
@@ -46,6 +47,14 @@ fn common_front(before: &[ClassId], classes: &[ClassId]) -> usize
         && are_same(&before[front..front + STEP], &classes[front..front + STEP])
     {
         front += STEP;
+    }
+    if most - front >= STEP / 2
+        && are_same(
+            &before[front..front + STEP / 2],
+            &classes[front..front + STEP / 2],
+        )
+    {
+        front += STEP / 2;
     }
     while front < most && before[front] == classes[front] {
         front += 1;
