@@ -58,14 +58,6 @@ take-pair bytes i x y within =
     let next : i + 2 ≡ i + 1 + 1 = omega arith in
     ap (λ (n : ℕ). take n (set (set bytes i x) (i + 1) y)) next ∙ second ∙ ap (λ (l : List ℕ). l ++ y ∷ []) first ∙ append_assoc (take i bytes) (x ∷ []) (y ∷ [])
 
--- three bytes
-pub take-three : (bytes : List ℕ) (i x y z : ℕ) → i + 2 < length bytes → take (i + 3) (set (set (set bytes i x) (i + 1) y) (i + 2) z) ≡ take i bytes ++ x ∷ y ∷ z ∷ []
-take-three bytes i x y z within =
-    let two : List ℕ = set (set bytes i x) (i + 1) y in
-    let third : take (i + 2 + 1) (set two (i + 2) z) ≡ take (i + 2) two ++ z ∷ [] = take_more_set two (i + 2) z (rw (length-set, length-set) within) in
-    let next : i + 3 ≡ i + 2 + 1 = omega arith in
-    ap (λ (n : ℕ). take n (set two (i + 2) z)) next ∙ third ∙ ap (λ (l : List ℕ). l ++ z ∷ []) (take-pair bytes i x y (omega (arith, within))) ∙ append_assoc (take i bytes) (x ∷ y ∷ []) (z ∷ [])
-
 -- a number of two digits
 pub decimal-two : (n : ℕ) → 10 ≤ n → n < 100 → decimal n ≡ (48 + n / 10) ∷ (48 + n % 10) ∷ []
 decimal-two n most less =

@@ -11,6 +11,9 @@ use ot_base::ClassId;
 /// How many classes are compared at once.
 const STEP: usize = 8;
 
+/// How many are compared at once where fewer are left.
+const HALF: usize = STEP / 2;
+
 /// The numbers of the classes, by input, and a dash where there are none. The text of the prefix before, each number behind a space,
 /// is kept and becomes that of this one: mostly they have a long front in common, which is not written anew.
 #[inline(always)]
@@ -48,13 +51,10 @@ fn common_front(before: &[ClassId], classes: &[ClassId]) -> usize
     {
         front += STEP;
     }
-    if most - front >= STEP / 2
-        && are_same(
-            &before[front..front + STEP / 2],
-            &classes[front..front + STEP / 2],
-        )
+    if most - front >= HALF
+        && are_same(&before[front..front + HALF], &classes[front..front + HALF])
     {
-        front += STEP / 2;
+        front += HALF;
     }
     while front < most && before[front] == classes[front] {
         front += 1;
