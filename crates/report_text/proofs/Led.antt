@@ -1,9 +1,9 @@
 -- Numbers in a row, each behind a byte.
 use Rattle.std.proofs.Common.{subst, ◌≡◌, ℕ, zero, suc, ◌+◌, ◌-◌, ◌<◌, ◌≤◌, List, [], ◌∷◌, ◌++◌, length, length-append, get_or, take, drop, set, map, ◌*◌, ◌/◌, ◌%◌, decimal, arith, refl, sym, ap, append_assoc, ◌∙◌}
-use Rattle.std.proofs.lemmas.List.{append-nil, take_more, take_more_set, drop-set, length-drop, length-set, take_all}
+use Rattle.std.proofs.lemmas.List.{append-nil, take_more, take_more_set, drop-set, length-drop, drop-drop, length-set, length-take-le, take_at, drop_at}
 use Rattle.std.proofs.lemmas.List.Folds.{flat_map-map}
 use Rattle.std.proofs.lemmas.List.Concat.{flat_map-append}
-use Rattle.std.proofs.Math.Seq.{take-set-lt}
+use Rattle.std.proofs.Math.Seq.{take-add, take-set-lt}
 use Rattle.std.proofs.lemmas.Fmt.{decimal_digit, decimal_step}
 use Rattle.report_text.specs.Spelling.{spaced, behind, led}
 use Rattle.report_text.proofs.Spaced.{join-cons}
@@ -58,14 +58,6 @@ take-pair bytes i x y within =
     let next : i + 2 ≡ i + 1 + 1 = omega arith in
     ap (λ (n : ℕ). take n (set (set bytes i x) (i + 1) y)) next ∙ second ∙ ap (λ (l : List ℕ). l ++ y ∷ []) first ∙ append_assoc (take i bytes) (x ∷ []) (y ∷ [])
 
--- three bytes
-pub take-three : (bytes : List ℕ) (i x y z : ℕ) → i + 2 < length bytes → take (i + 3) (set (set (set bytes i x) (i + 1) y) (i + 2) z) ≡ take i bytes ++ x ∷ y ∷ z ∷ []
-take-three bytes i x y z within =
-    let two : List ℕ = set (set bytes i x) (i + 1) y in
-    let third : take (i + 2 + 1) (set two (i + 2) z) ≡ take (i + 2) two ++ z ∷ [] = take_more_set two (i + 2) z (rw (length-set, length-set) within) in
-    let next : i + 3 ≡ i + 2 + 1 = omega arith in
-    ap (λ (n : ℕ). take n (set two (i + 2) z)) next ∙ third ∙ ap (λ (l : List ℕ). l ++ z ∷ []) (take-pair bytes i x y (omega (arith, within))) ∙ append_assoc (take i bytes) (x ∷ y ∷ []) (z ∷ [])
-
 -- a number of two digits
 pub decimal-two : (n : ℕ) → 10 ≤ n → n < 100 → decimal n ≡ (48 + n / 10) ∷ (48 + n % 10) ∷ []
 decimal-two n most less =
@@ -104,14 +96,54 @@ pub put_all : (text whole rest : List ℕ) (before byte : ℕ) → length rest �
 put_all text whole [] before byte none so_far = sym (append-nil text) ∙ so_far
 put_all text whole (x ∷ rest) before byte none so_far = absurd (omega (arith, none))
 
--- a number at the end of some bytes, before one byte and behind another that is set there
-pub number-between : (text new bytes number : List ℕ) (start before after : ℕ) → start + length number ≡ 23 → 0 < start → drop start bytes ≡ number ++ after ∷ []
-    → new ≡ text ++ take (24 - (start - 1)) (drop (start - 1) (set bytes (start - 1) before)) → new ≡ text ++ before ∷ number ++ after ∷ []
-number-between text new bytes number start before after long some e put =
-    let within : start ≤ length bytes = omega (arith, length-drop start bytes, ap (λ (l : List ℕ). length l) e, length-append number (after ∷ [])) in
+-- the first of some bytes that are taken with others
+pub take-front : (xs ys : List ℕ) (n m : ℕ) → n ≡ length xs → n ≤ m → take n (take m (xs ++ ys)) ≡ xs
+take-front xs ys n m is within =
+    let more : n + (m - n) ≡ m = omega (arith, within) in
+    ap (λ (k : ℕ). take n (take k (xs ++ ys))) (sym more)
+    ∙ ap (λ (l : List ℕ). take n l) (take-add n (m - n) (xs ++ ys))
+    ∙ take_at (take n (xs ++ ys)) (take (m - n) (drop n (xs ++ ys))) n (omega (arith, ap (λ (l : List ℕ). length l) (take_at xs ys n (sym is)), is))
+    ∙ take_at xs ys n (sym is)
+
+-- a number among some bytes, before one byte and behind another that is set there, of which none is taken with them that is behind
+pub number-between : (text new bytes number more : List ℕ) (start before after : ℕ) → start + length number ≡ 23 → 0 < start → drop start bytes ≡ number ++ after ∷ more
+    → new ≡ text ++ take (25 - start) (take (start + 23 - (start - 1)) (drop (start - 1) (set bytes (start - 1) before))) → new ≡ text ++ before ∷ number ++ after ∷ []
+number-between text new bytes number more start before after long some e put =
+    let within : start ≤ length bytes = omega (arith, length-drop start bytes, ap (λ (l : List ℕ). length l) e, length-append number (after ∷ more)) in
     let next : start - 1 + 1 ≡ start = omega (arith, some) in
-    let whole : drop (start - 1) (set bytes (start - 1) before) ≡ before ∷ (number ++ after ∷ []) =
-    drop-set bytes (start - 1) before (omega (arith, some, within)) ∙ ap (λ (k : ℕ). before ∷ drop k bytes) next ∙ ap (λ (l : List ℕ). before ∷ l) e
+    let field : List ℕ = before ∷ (number ++ after ∷ []) in
+    let whole : drop (start - 1) (set bytes (start - 1) before) ≡ field ++ more =
+    drop-set bytes (start - 1) before (omega (arith, some, within)) ∙ ap (λ (k : ℕ). before ∷ drop k bytes) next ∙ ap (λ (l : List ℕ). before ∷ l) (e ∙ sym (append_assoc number (after ∷ []) more))
     in
-    let all : length (drop (start - 1) (set bytes (start - 1) before)) ≤ 24 - (start - 1) = omega (arith, ap (λ (l : List ℕ). length l) whole, length-append number (after ∷ []), long, some) in
-    put ∙ ap (λ (l : List ℕ). text ++ l) (take_all (24 - (start - 1)) (drop (start - 1) (set bytes (start - 1) before)) all ∙ whole) ∙ sym (append_assoc text (before ∷ number) (after ∷ []))
+    let wide : length field ≡ 25 - start = omega (arith, length-append number (after ∷ []), long, some) in
+    put
+    ∙ ap (λ (l : List ℕ). text ++ take (25 - start) (take (start + 23 - (start - 1)) l)) whole
+    ∙ ap (λ (l : List ℕ). text ++ l) (take-front field more (25 - start) (start + 23 - (start - 1)) (sym wide) (omega (arith, some, wide, long, length-append number (after ∷ []))))
+    ∙ sym (append_assoc text (before ∷ number) (after ∷ []))
+
+-- a word before a number, each before a tab, of which the first is set there
+pub line-number : (text new bytes word copied number more : List ℕ) (start first : ℕ) → copied ≡ word → start + length number ≡ 31 → 1 + length word ≤ start → first ≡ start - 1 - length word → drop start bytes ≡ number ++ 9 ∷ more
+    → new ≡ text ++ take (32 - first) (take (first + 32 - first) (drop first (take first (set bytes (start - 1) 9) ++ (copied ++ drop (start - 1 - first) (drop first (set bytes (start - 1) 9))))))
+    → new ≡ text ++ word ++ 9 ∷ number ++ 9 ∷ []
+line-number text new bytes word copied number more start first same long some is e put =
+    let within : start ≤ length bytes = omega (arith, length-drop start bytes, ap (λ (l : List ℕ). length l) e, length-append number (9 ∷ more)) in
+    let next : start - 1 + 1 ≡ start = omega (arith, some) in
+    let tabbed : List ℕ = set bytes (start - 1) 9 in
+    let field : List ℕ = word ++ (9 ∷ (number ++ 9 ∷ [])) in
+    let behind : drop (start - 1 - first) (drop first tabbed) ≡ 9 ∷ (number ++ 9 ∷ more) =
+    drop-drop (start - 1 - first) first tabbed
+    ∙ ap (λ (k : ℕ). drop k tabbed) (let back : first + (start - 1 - first) ≡ start - 1 = omega (arith, is, some) in back)
+    ∙ drop-set bytes (start - 1) 9 (omega (arith, some, within)) ∙ ap (λ (k : ℕ). 9 ∷ drop k bytes) next ∙ ap (λ (l : List ℕ). 9 ∷ l) e
+    in
+    let whole : drop first (take first tabbed ++ (copied ++ drop (start - 1 - first) (drop first tabbed))) ≡ field ++ more =
+    drop_at (take first tabbed) (copied ++ drop (start - 1 - first) (drop first tabbed)) first (length-take-le first tabbed (omega (arith, length-set bytes (start - 1) 9, is, within)))
+    ∙ ap (λ (l : List ℕ). l ++ drop (start - 1 - first) (drop first tabbed)) same
+    ∙ ap (λ (l : List ℕ). word ++ l) (behind ∙ ap (λ (l : List ℕ). 9 ∷ l) (sym (append_assoc number (9 ∷ []) more)))
+    ∙ sym (append_assoc word (9 ∷ (number ++ 9 ∷ [])) more)
+    in
+    let wide : length field ≡ 32 - first = omega (arith, length-append word (9 ∷ (number ++ 9 ∷ [])), length-append number (9 ∷ []), long, some, is) in
+    put
+    ∙ ap (λ (l : List ℕ). text ++ take (32 - first) (take (first + 32 - first) l)) whole
+    ∙ ap (λ (l : List ℕ). text ++ l) (take-front field more (32 - first) (first + 32 - first) (sym wide) (omega arith))
+    ∙ sym (append_assoc text word (9 ∷ (number ++ 9 ∷ [])))
+    ∙ sym (append_assoc (text ++ word) (9 ∷ number) (9 ∷ []))

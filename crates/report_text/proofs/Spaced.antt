@@ -1,13 +1,13 @@
 -- Lists with something between each two items, one more item at a time.
-use Rattle.std.proofs.Common.{◌≡◌, ℕ, zero, suc, ◌+◌, ◌-◌, ◌*◌, ◌<◌, ◌≤◌, List, [], ◌∷◌, ◌++◌, length, get_or, min, take, drop, map, Bool, true, false, cond, eqb, ◌==◌, slice_index, filter, decimal, flat_map, arith, refl, sym, ap, append_assoc, ◌∙◌}
+use Rattle.std.proofs.Common.{◌≡◌, ℕ, zero, suc, ◌+◌, ◌*◌, ◌<◌, ◌≤◌, List, [], ◌∷◌, ◌++◌, length, get_or, take, drop, map, Bool, true, false, cond, eqb, ◌==◌, slice_index, filter, decimal, flat_map, arith, refl, sym, ap, append_assoc, ◌∙◌}
 use Rattle.std.specs.List.{join_with_byte, join_by, range_with_len}
-use Rattle.std.proofs.lemmas.List.{map_push, map-id, append-nil, take_more, drop-take}
+use Rattle.std.proofs.lemmas.List.{map_push, map-id, append-nil, take_more}
 use Rattle.std.proofs.lemmas.List.FromFn.{map-range_with_len_more, filter_of_map_range_with_len_more}
-use Rattle.std.proofs.lemmas.Bool.{ne_eqb}
+use Rattle.std.proofs.lemmas.Bool.{eq-eqb, ne_eqb}
 use Rattle.std.proofs.lemmas.List.Concat.{flat_map-append}
 use Rattle.std.proofs.lemmas.List.Folds.{flat_map-map}
 use Rattle.ot_theory.specs.Rankings.{numbers_below}
-use Rattle.report_text.specs.Spelling.{behind, spaced, stratum}
+use Rattle.report_text.specs.Spelling.{behind, spaced}
 
 -- each item but the first has the byte before it
 pub join-cons : (c : ℕ) (x : List ℕ) (xs : List (List ℕ)) → join_with_byte c (x ∷ xs) ≡ x ++ flat_map (λ y. c ∷ y) xs
@@ -74,46 +74,52 @@ pub spaced-behind : (numbers : List ℕ) → drop 1 (behind 32 numbers) ≡ spac
 spaced-behind [] = refl
 spaced-behind (n ∷ numbers) = sym (join-cons 32 (decimal n) (map decimal numbers) ∙ ap (λ (l : List ℕ). decimal n ++ l) (flat_map-map (λ (y : List ℕ). 32 ∷ y) decimal numbers))
 
--- the same where they stand at the front of some bytes
-pub spaced-front : (bytes numbers : List ℕ) (end first : ℕ) → first ≡ min end 1 → end ≤ length bytes → take end bytes ≡ behind 32 numbers → take (end - first) (drop first bytes) ≡ spaced numbers
-spaced-front bytes [] zero first least within e = take-none (zero - first) first bytes (omega (arith, least)) (omega (arith, least))
-  where
-    take-none : (k first : ℕ) (bytes : List ℕ) → k ≡ 0 → first ≡ 0 → take k (drop first bytes) ≡ []
-    take-none zero first bytes none start = refl
-    take-none (suc k) first bytes none start = absurd (omega (arith, none))
-spaced-front bytes (n ∷ numbers) zero first least within e = absurd (let none : 0 ≡ suc (length (decimal n ++ behind 32 numbers)) = ap (λ (l : List ℕ). length l) e in omega (arith, none))
-spaced-front bytes numbers (suc end) first least within e =
-    let one : first ≡ 1 = omega (arith, least) in
-    let all : first + (suc end - first) ≡ suc end = omega (arith, one) in
-    sym (drop-take first (suc end - first) bytes) ∙ ap (λ (k : ℕ). drop first (take k bytes)) all ∙ ap (λ (l : List ℕ). drop first l) e ∙ ap (λ (k : ℕ). drop k (behind 32 numbers)) one ∙ spaced-behind numbers
+first-map : {X Y : Type 0} (f : X → Y) (xs : List X) → is_first (map f xs) ≡ is_first xs
+first-map f [] = refl
+first-map f (x ∷ xs) = refl
 
--- They stand at the front of the bytes, each behind a space.
-pub record IsStratumBelow (levels : List ℕ) (s c end : ℕ) (bytes : List ℕ) : Type 0 where
-  pub long : length bytes ≡ 192
-  pub short : end ≤ 3 * c
-  pub written : take end bytes ≡ behind 32 (map (λ d. d + 1) (stratum_below levels s c))
+first-push : {X : Type 0} (xs : List X) (x : X) → is_first (xs ++ x ∷ []) ≡ false
+first-push [] x = refl
+first-push (y ∷ xs) x = refl
 
-pub IsStratumBelow-in : (levels : List ℕ) (s c end next : ℕ) (bytes new : List ℕ) → eqb (get_or levels c 0) s ≡ true → length new ≡ length bytes → next ≤ end + 3 → take next new ≡ take end bytes ++ 32 ∷ decimal (c + 1)
-    → IsStratumBelow levels s c end bytes → IsStratumBelow levels s (c + 1) next new
-IsStratumBelow-in levels s c end next bytes new here long short step below =
-    let more : stratum_below levels s (c + 1) ≡ stratum_below levels s c ++ c ∷ [] = rw here at (stratum_below-push levels s c) in
-    let front : List ℕ = map (λ d. d + 1) (stratum_below levels s c) in
-    let one : ℕ → List ℕ = λ n. 32 ∷ decimal n in
+-- one constraint more of a stratum, with a space before it unless it is the first
+spaced-push : (xs : List ℕ) (c : ℕ) → spaced (map (λ d. d + 1) (xs ++ c ∷ [])) ≡ spaced (map (λ d. d + 1) xs) ++ (cond (is_first xs) [] (32 ∷ []) ++ decimal (c + 1))
+spaced-push xs c =
+    let next : ℕ → ℕ = λ d. d + 1 in
+    ap spaced (map_push next xs c) ∙ joined-push 32 decimal (map next xs) (c + 1)
+    ∙ ap (λ (first : Bool). spaced (map next xs) ++ (cond first [] (32 ∷ []) ++ decimal (c + 1))) (first-map next xs)
+
+-- They stand behind the first bytes, with a space between each two.
+pub record IsStratumBehind (levels : List ℕ) (s c start end : ℕ) (old bytes : List ℕ) : Type 0 where
+  pub long : length bytes ≡ length old
+  pub later : start ≤ end
+  pub short : end ≤ start + 3 * c
+  pub none : eqb end start ≡ is_first (stratum_below levels s c)
+  pub written : take end bytes ≡ take start old ++ spaced (map (λ d. d + 1) (stratum_below levels s c))
+
+pub IsStratumBehind-in : (levels : List ℕ) (s c start end next : ℕ) (old bytes new : List ℕ) → eqb (get_or levels c 0) s ≡ true → length new ≡ length bytes → end < next → next ≤ end + 3
+    → take next new ≡ take end bytes ++ (cond (eqb end start) [] (32 ∷ []) ++ decimal (c + 1)) → IsStratumBehind levels s c start end old bytes → IsStratumBehind levels s (c + 1) start next old new
+IsStratumBehind-in levels s c start end next old bytes new here long some short step below =
+    let xs = stratum_below levels s c in
+    let more : stratum_below levels s (c + 1) ≡ xs ++ c ∷ [] = rw here at (stratum_below-push levels s c) in
+    let one : List ℕ = cond (is_first xs) [] (32 ∷ []) ++ decimal (c + 1) in
     record {
       long = long ∙ below.long;
+      later = omega (arith, some, below.later);
       short = omega (arith, short, below.short);
-      written = step ∙ sym (
-          ap (λ (l : List ℕ). behind 32 (map (λ d. d + 1) l)) more ∙ ap (λ (l : List ℕ). behind 32 l) (map_push (λ d. d + 1) (stratum_below levels s c) c) ∙ flat_map-append one front ((c + 1) ∷ [])
-          ∙ ap (λ (l : List ℕ). behind 32 front ++ l) (append-nil (one (c + 1))) ∙ ap (λ (l : List ℕ). l ++ one (c + 1)) (sym below.written));
+      none = ne_eqb next start (λ e. omega (arith, some, below.later, e)) ∙ sym (ap is_first more ∙ first-push xs c);
+      written = step
+          ∙ ap (λ (first : Bool). take end bytes ++ (cond first [] (32 ∷ []) ++ decimal (c + 1))) below.none
+          ∙ ap (λ (l : List ℕ). l ++ one) below.written
+          ∙ append_assoc (take start old) (spaced (map (λ d. d + 1) xs)) one
+          ∙ ap (λ (l : List ℕ). take start old ++ l) (sym (ap (λ (l : List ℕ). spaced (map (λ d. d + 1) l)) more ∙ spaced-push xs c));
     }
 
-pub IsStratumBelow-out : (levels : List ℕ) (s c end : ℕ) (bytes : List ℕ) → eqb (get_or levels c 0) s ≡ false → IsStratumBelow levels s c end bytes → IsStratumBelow levels s (c + 1) end bytes
-IsStratumBelow-out levels s c end bytes other below =
+pub IsStratumBehind-out : (levels : List ℕ) (s c start end : ℕ) (old bytes : List ℕ) → eqb (get_or levels c 0) s ≡ false → IsStratumBehind levels s c start end old bytes → IsStratumBehind levels s (c + 1) start end old bytes
+IsStratumBehind-out levels s c start end old bytes other below =
     let same : stratum_below levels s (c + 1) ≡ stratum_below levels s c = rw (other, append-nil) at (stratum_below-push levels s c) in
-    record { long = below.long; short = omega (arith, below.short); written = rw same below.written }
+    record { long = below.long; later = below.later; short = omega (arith, below.short); none = rw same below.none; written = rw same below.written }
 
--- all of them, without the first space
-pub stratum-front : (levels : List ℕ) (s c end first : ℕ) (bytes : List ℕ) → c ≡ length levels → end ≤ 192 → first ≡ min end 1 → IsStratumBelow levels s c end bytes → take (end - first) (drop first bytes) ≡ spaced (stratum levels s)
-stratum-front levels s c end first bytes all room least below =
-    spaced-front bytes (map (λ d. d + 1) (stratum_below levels s c)) end first least (omega (arith, below.long, room)) below.written
-    ∙ ap (λ (k : ℕ). spaced (map (λ d. d + 1) (stratum_below levels s k))) all
+-- none of them, at first
+pub IsStratumBehind-none : (levels : List ℕ) (s start : ℕ) (bytes : List ℕ) → IsStratumBehind levels s 0 start start bytes bytes
+IsStratumBehind-none levels s start bytes = record { long = refl; later = omega arith; short = omega arith; none = eq-eqb start start refl; written = sym (append-nil (take start bytes)) }

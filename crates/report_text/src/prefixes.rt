@@ -11,8 +11,12 @@ use ot_base::ClassId;
 /// How many classes are compared at once.
 const STEP: usize = 8;
 
+/// How many are compared at once where fewer are left.
+const HALF: usize = STEP / 2;
+
 /// The numbers of the classes, by input, and a dash where there are none. The text of the prefix before, each number behind a space,
 /// is kept and becomes that of this one: mostly they have a long front in common, which is not written anew.
+#[inline(always)]
 pub(crate) fn put_prefix(
     text: &mut Text,
     kept: &mut Text,
@@ -46,6 +50,11 @@ fn common_front(before: &[ClassId], classes: &[ClassId]) -> usize
         && are_same(&before[front..front + STEP], &classes[front..front + STEP])
     {
         front += STEP;
+    }
+    if most - front >= HALF
+        && are_same(&before[front..front + HALF], &classes[front..front + HALF])
+    {
+        front += HALF;
     }
     while front < most && before[front] == classes[front] {
         front += 1;

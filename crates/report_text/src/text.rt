@@ -1,6 +1,6 @@
 //! A text that grows at its end, by bytes, numbers and fields.
 
-ghost use Rattle.std.specs.Prelude.{◌≡◌, [], ◌∷◌, ◌++◌, OnOk, decimal, take, if◌then◌else◌};
+ghost use Rattle.std.specs.Prelude.{◌≡◌, [], ◌∷◌, ◌++◌, ◌≤◌, OnOk, decimal, length, take, if◌then◌else◌};
 ghost use Rattle.report_text.specs.Spelling.{line, output};
 
 use erc_vectors::NoMemory;
@@ -42,6 +42,7 @@ impl Text {
     }
 
     /// The bytes behind the others.
+    #[inline(always)]
     pub(crate) fn put(&mut self, bytes: &[u8]) -> Result<(), NoMemory>
         ensures { OnOk result (self.new ≡ self.old ++ bytes.now) }
     {
@@ -85,18 +86,36 @@ impl Text {
     pub(crate) fn number_between(&mut self, before: u8, n: usize, after: u8) -> Result<(), NoMemory>
         ensures { OnOk result (self.new ≡ self.old ++ before ∷ decimal n ++ after ∷ []) }
     {
-        let mut bytes = [after; 24];
+        let mut bytes = [after; 48];
         let start = write_digits(n as u64, &mut bytes, 23);
         bytes[start - 1] = before;
-        self.put(&bytes[start - 1..])
+        self.put_front(&bytes[start - 1..start + 23], 25 - start)
     }
 
-    /// The beginning of a line: a word, its number, and a tab behind each.
+    /// The first of some bytes. All are written, since a number of bytes that is fixed is written without a call, and those
+    /// behind them are cut off again.
+    #[inline(always)]
+    fn put_front(&mut self, bytes: &[u8], count: usize) -> Result<(), NoMemory>
+        requires { count ≤ length bytes.now }
+        ensures { OnOk result (self.new ≡ self.old ++ take count bytes.now) }
+    {
+        self.bytes.extend_from_slice(bytes)?;
+        self.bytes
+            .truncate(self.bytes.len() - (bytes.len() - count));
+        Ok(())
+    }
+
+    /// The beginning of a line: a short word, its number, and a tab behind each, put together and written at once.
     pub(crate) fn line_number(&mut self, word: &[u8], n: usize) -> Result<(), NoMemory>
+        requires { length word.now ≤ 8 }
         ensures { OnOk result (self.new ≡ self.old ++ word.now ++ 9 ∷ decimal n ++ 9 ∷ []) }
     {
-        self.put(word)?;
-        self.number_between(b'\t', n, b'\t')
+        let mut bytes = [b'\t'; 64];
+        let start = write_digits(n as u64, &mut bytes, 31);
+        let first = start - 1 - word.len();
+        bytes[start - 1] = b'\t';
+        bytes[first..start - 1].copy_from_slice(word);
+        self.put_front(&bytes[first..first + 32], 32 - first)
     }
 
     /// A number in decimal that mostly has more than one digit.
@@ -109,13 +128,32 @@ impl Text {
         self.put(digits.as_bytes())
     }
 
-    /// A byte and a number in decimal. Most numbers have one digit, which is put together with the byte.
+    /// A byte and a number in decimal, which mostly has one digit.
+    #[inline(always)]
     pub(crate) fn byte_and_number(&mut self, byte: u8, n: usize) -> Result<(), NoMemory>
         ensures { OnOk result (self.new ≡ self.old ++ byte ∷ decimal n) }
     {
         if n < 10 {
-            return self.put(&[byte, b'0' + n as u8]);
+            return self.two_bytes(byte, b'0' + n as u8);
         }
+        self.byte_and_long_number(byte, n)
+    }
+
+    /// Two bytes, for which room is made at once.
+    fn two_bytes(&mut self, first: u8, second: u8) -> Result<(), NoMemory>
+        ensures { OnOk result (self.new ≡ self.old ++ first ∷ second ∷ []) }
+    {
+        self.bytes.reserve(2)?;
+        self.bytes.push_reserved(first);
+        self.bytes.push_reserved(second);
+        Ok(())
+    }
+
+    /// A byte and a number in decimal that mostly has more than one digit.
+    #[inline(never)]
+    fn byte_and_long_number(&mut self, byte: u8, n: usize) -> Result<(), NoMemory>
+        ensures { OnOk result (self.new ≡ self.old ++ byte ∷ decimal n) }
+    {
         self.byte(byte)?;
         self.long_number(n)
     }

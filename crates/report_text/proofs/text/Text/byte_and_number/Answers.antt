@@ -4,4 +4,4 @@ use Rattle.std.proofs.lemmas.Result.{on_ok_weaker}
 use Rattle.report_text.proofs.text.Text.byte_and_number.Goals as goal
 
 pub returns-then-n-lt10 : goal.returns-then-n-lt10
-returns-then-n-lt10 c = on_ok_weaker c.put.result (λ e. e ∙ ap (λ (l : List ℕ). c.args.self.now ++ c.args.byte ∷ l) (sym (decimal_digit c.args.n c.if-n-lt10.true))) c.put.ensures
+returns-then-n-lt10 c = on_ok_weaker c.two_bytes.result (λ e. e ∙ ap (λ (l : List ℕ). c.args.self.now ++ c.args.byte ∷ l) (sym (decimal_digit c.args.n c.if-n-lt10.true))) c.two_bytes.ensures
