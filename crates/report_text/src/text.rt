@@ -9,6 +9,9 @@ use ot_base::Label;
 use std::alloc::Global;
 use std::marker::Model;
 
+/// How many bytes a short word has at most.
+const SHORT: usize = 8;
+
 /// A text of bytes that grows at its end. It keeps the allocator that it was made with. After a call that finds no memory it
 /// may hold a part of what was to be written.
 #[derive(Debug, Drop)]
@@ -105,9 +108,21 @@ impl Text {
         Ok(())
     }
 
-    /// The beginning of a line: a short word, its number, and a tab behind each, put together and written at once.
+    /// The beginning of a line: a word, its number, and a tab behind each.
+    #[inline(always)]
     pub(crate) fn line_number(&mut self, word: &[u8], n: usize) -> Result<(), NoMemory>
-        requires { length word.now ≤ 8 }
+        ensures { OnOk result (self.new ≡ self.old ++ word.now ++ 9 ∷ decimal n ++ 9 ∷ []) }
+    {
+        if word.len() <= SHORT {
+            return self.short_line_number(word, n);
+        }
+        self.put(word)?;
+        self.number_between(b'\t', n, b'\t')
+    }
+
+    /// The same where the word is short: all is put together and written at once.
+    fn short_line_number(&mut self, word: &[u8], n: usize) -> Result<(), NoMemory>
+        requires { length word.now ≤ SHORT }
         ensures { OnOk result (self.new ≡ self.old ++ word.now ++ 9 ∷ decimal n ++ 9 ∷ []) }
     {
         let mut bytes = [b'\t'; 64];

@@ -1,8 +1,8 @@
 -- The cuts and the languages of a problem are those that extend the empty prefix.
-use Rattle.std.proofs.Common.{◌≡◌, ◌⊎◌, ℕ, zero, suc, ◌+◌, ◌<◌, ◌≤◌, List, [], ◌∷◌, ◌++◌, Bool, true, false, not, ◌&&◌, arith, refl, sym, ◌∙◌, ap, inl, inr, cond, length, map, flat_map, drop, take, append_assoc, length-append}
+use Rattle.std.proofs.Common.{◌≡◌, ◌⊎◌, ℕ, zero, suc, ◌+◌, ◌<◌, List, [], ◌∷◌, ◌++◌, Bool, true, false, not, ◌&&◌, arith, refl, sym, ◌∙◌, ap, inl, inr, cond, length, map, flat_map, drop, take, append_assoc, length-append}
 use Rattle.std.specs.Prelude.{filter}
-use Rattle.std.specs.List.{range_with_len, list_any}
-use Rattle.std.proofs.lemmas.Bool.{cases_Bool, false_from_ne_true}
+use Rattle.std.specs.List.{range_with_len}
+use Rattle.std.proofs.lemmas.Bool.{cases_Bool}
 use Rattle.std.proofs.lemmas.List.{append-nil, map-append}
 use Rattle.std.proofs.lemmas.List.Elements.{filter-append}
 use Rattle.std.proofs.lemmas.List.Folds.{flat_map-map}
@@ -11,7 +11,7 @@ use Rattle.ot_theory.specs.Problems.{Input, Problem}
 use Rattle.ot_theory.specs.Languages.{choices, languages, classes_at, refuted}
 use Rattle.ot_theory.specs.Refutations.{prefixes, cuts}
 use Rattle.ot_theory.proofs.Strata.{range-any}
-use Rattle.ot_theory.proofs.Optimal.{classes_in, at_drop, drop_more}
+use Rattle.ot_theory.proofs.Optimal.{at_drop, drop_more}
 use Rattle.search_deeds.specs.Deeds.{children}
 use Rattle.typology_core.specs.Below.{cuts_below, languages_below}
 use Rattle.search_deeds.proofs.Reached.{is_behind_cut, refuted-take, behind-push}

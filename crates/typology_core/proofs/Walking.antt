@@ -1,5 +1,5 @@
 -- The steps of a walk through the prefixes of a problem.
-use Rattle.std.proofs.Common.{◌≡◌, ℕ, zero, suc, ◌+◌, ◌<◌, ◌≤◌, List, [], ◌∷◌, ◌++◌, Bool, true, false, arith, refl, sym, ◌∙◌, ap, inl, inr, length, map, take, get_or, length-append, flat_map, append_assoc, Option, Some, None, IfSome, IfNone}
+use Rattle.std.proofs.Common.{◌≡◌, ℕ, zero, suc, ◌+◌, ◌<◌, List, [], ◌∷◌, ◌++◌, true, false, arith, refl, sym, ◌∙◌, ap, inl, inr, length, map, take, get_or, length-append, flat_map, append_assoc, Option, Some, None, IfSome, IfNone}
 use Rattle.std.specs.Prelude.{All}
 use Rattle.std.proofs.lemmas.Bool.{cases_lt}
 use Rattle.std.proofs.lemmas.List.{append-nil, length-map, map-append, take-append-le, take_all}
@@ -29,7 +29,7 @@ use Rattle.refutation.specs.declared.contradiction.Contradiction.{Contradiction}
 use Rattle.refutation.specs.declared.typology.Cut.{Cut}
 use Rattle.refutation.specs.declared.typology.Language.{Language}
 use Rattle.refutation.proofs.TermsOfPrefixes.{certificate-refutes, made-one, terms_of-genuine, terms_of-made, terms_of-push}
-use Rattle.search_deeds.specs.Gathered.{AreGenuine, IsCertified, first_refuting}
+use Rattle.search_deeds.specs.Gathered.{AreGenuine, first_refuting}
 use Rattle.search_deeds.specs.Indexed.{IsIndex}
 use Rattle.search_deeds.specs.Places.{IsIndexOf}
 use Rattle.search_deeds.specs.Admitted.{AreBlocked}

@@ -1,5 +1,5 @@
 -- A walk from the empty prefix finds the typology of a problem.
-use Rattle.std.proofs.Common.{◌≡◌, ℕ, ◌+◌, List, [], arith, refl, sym, ◌∙◌, ap, length}
+use Rattle.std.proofs.Common.{◌≡◌, ℕ, ◌+◌, List, [], arith, sym, ◌∙◌, length}
 use Rattle.ot_theory.specs.Problems.{Problem}
 use Rattle.ot_theory.specs.Languages.{IsTypology}
 use Rattle.ot_theory.specs.Refutations.{cuts}
@@ -7,9 +7,8 @@ use Rattle.ot_base.specs.declared.tableau.ClassId.{ClassId}
 use Rattle.refutation.specs.Prefixes.{class_numbers}
 use Rattle.refutation.specs.Typologies.{certificates_of, cuts_of, found_of}
 use Rattle.search_deeds.specs.Gathered.{AreNamed}
-use Rattle.typology_core.specs.Walked.{AreAllBelow, IsFoundOf, choices_of, cut_prefixes, prefix_of}
+use Rattle.typology_core.specs.Walked.{AreAllBelow, IsFoundOf, cut_prefixes}
 use Rattle.typology_core.specs.declared.walk.Found.{Found}
-use Rattle.typology_core.specs.declared.walk.Path.{Path}
 use Rattle.typology_core.proofs.Below.{cuts-below, languages-below}
 use Rattle.search_deeds.proofs.FromDeeds.{AreCertified, certified}
 use Rattle.search_deeds.proofs.Named.{cuts-named}

@@ -1,5 +1,5 @@
 -- The search of one worker: a run of the machine that is made of rounds.
-use Rattle.std.specs.Prelude.{◌≡◌, ℕ, true, false, List, [], ◌∷◌, ◌++◌, flat_map}
+use Rattle.std.specs.Prelude.{◌≡◌, ℕ, false, List, [], ◌∷◌, ◌++◌, flat_map}
 use Rattle.ot_theory.specs.Problems.{Problem}
 use Rattle.search_machine.specs.Machine.{IsFinished, Leads, State, is_enabled, start}
 use Rattle.search_machine.specs.declared.step.Step.{Step}

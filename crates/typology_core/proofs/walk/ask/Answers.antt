@@ -1,4 +1,3 @@
-use Rattle.std.proofs.Common.{◌∙◌}
 use Rattle.std.proofs.lemmas.Result.{on_ok_weaker}
 use Rattle.ot_theory.specs.Languages.{classes_at, terms_of_class}
 use Rattle.typology_core.proofs.walk.ask.Goals as goal

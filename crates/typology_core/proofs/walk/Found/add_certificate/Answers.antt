@@ -10,8 +10,7 @@ use Rattle.refutation.specs.declared.term.Term.{Term}
 use Rattle.refutation.specs.declared.typology.Cut.{Cut}
 use Rattle.ot_theory.specs.Refutations.{certificate_of}
 use Rattle.typology_core.specs.Walked.{prefix_of}
-use Rattle.refutation.specs.Terms.{terms_in, are_terms}
-use Rattle.ot_theory.proofs.Sets.{is_hopeless}
+use Rattle.refutation.specs.Terms.{terms_in}
 use Rattle.search_deeds.proofs.Admitting.{HaveRoom-blocked}
 use Rattle.typology_core.proofs.Walking.{path-genuine, path-one, path-hopeless, path-certificate, with-new-cut, IsWithCut, index-new, cut-same}
 use Rattle.typology_core.proofs.walk.Found.add_certificate.Goals as goal

@@ -1,11 +1,10 @@
-use Rattle.std.proofs.Common.{◌≡◌, ◌∙◌, List, true, sym, ap, arith, length}
+use Rattle.std.proofs.Common.{◌≡◌, List, true, arith}
 use Rattle.std.proofs.lemmas.List.{length-map}
 use Rattle.std.proofs.lemmas.List.Elements.{All-map}
 use Rattle.ot_base.specs.declared.tableau.ClassId.{ClassId}
 use Rattle.ot_theory.specs.Languages.{Term}
 use Rattle.ot_theory.specs.Refutations.{is_contradiction}
 use Rattle.refutation.specs.declared.contradiction.Contradiction.{Contradiction}
-use Rattle.refutation.specs.Prefixes.{class_numbers}
 use Rattle.refutation.specs.Terms.{terms_in}
 use Rattle.refutation.specs.Typologies.{certificates_of}
 use Rattle.typology_core.proofs.walk.Found.place_of.Goals as goal

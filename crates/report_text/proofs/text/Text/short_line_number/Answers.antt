@@ -3,7 +3,7 @@ use Rattle.std.proofs.lemmas.Fmt.{length-decimal-le}
 use Rattle.std.proofs.lemmas.List.{length-take, length-drop, length-set}
 use Rattle.std.proofs.lemmas.Result.{on_ok_weaker}
 use Rattle.report_text.proofs.Led.{line-number}
-use Rattle.report_text.proofs.text.Text.line_number.Goals as goal
+use Rattle.report_text.proofs.text.Text.short_line_number.Goals as goal
 
 pub write_digits-start-requires : goal.write_digits-start-requires
 write_digits-start-requires c = search (rules, length-decimal-le 20)
