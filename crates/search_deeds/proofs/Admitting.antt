@@ -107,9 +107,6 @@ IsAdmittedAt-append old new prefix k within begins h = record {
   each = λ d. rw (begins.whole, get_or_append_left old begins.rest d (k / 64) (omega (arith, within))) (h.each d);
 }
 
-pub own-at : (blocks : List Block) (prefix : List ℕ) (count : ℕ) (block : Block) → count / 64 < length blocks → IsAdmitted block prefix (count % 64) → IsAdmittedAt (set blocks (count / 64) block) prefix count
-own-at blocks prefix count block within h = record { each = λ d. rw (get_or-set_same blocks (count / 64) block d within) h }
-
 pub others-at : (old blocks : List Block) (prefix : List ℕ) (count k : ℕ) (before block : Block) → count ≤ length old * 64 → k < count → Begins old blocks → count / 64 < length blocks → before ≡ get_or blocks (count / 64) before
     → ((b : ℕ) → IsAdmitted before prefix b → IsAdmitted block prefix b) → IsAdmittedAt old prefix k → IsAdmittedAt (set blocks (count / 64) block) prefix k
 others-at old blocks prefix count k before block room below begins within is more h =
