@@ -1,6 +1,6 @@
 //! The text of a prefix, of which most stands in the text of the prefix before it.
 
-ghost use Rattle.std.specs.Prelude.{◌≡◌, ◌≤◌, ◌-◌, ◌++◌, IsTrue, OnOk, decimal, length, take};
+ghost use Rattle.std.specs.Prelude.{◌≡◌, ◌<◌, ◌≤◌, ◌-◌, ◌++◌, IsTrue, OnOk, decimal, length, take};
 ghost use Rattle.refutation.specs.Prefixes.{class_numbers};
 ghost use Rattle.report_text.specs.Spelling.{prefix, each_behind_space};
 
@@ -9,10 +9,10 @@ use erc_vectors::NoMemory;
 use ot_base::ClassId;
 
 /// How many classes are compared at once.
-const STEP: usize = 8;
+const MANY: usize = 32;
 
 /// How many are compared at once where fewer are left.
-const HALF: usize = STEP / 2;
+const FEW: usize = 4;
 
 /// The numbers of the classes, by input, and a dash where there are none. The text of the prefix before, each number behind a space,
 /// is kept and becomes that of this one: mostly they have a long front in common, which is not written anew.
@@ -44,22 +44,26 @@ fn common_front(before: &[ClassId], classes: &[ClassId]) -> usize
     ensures within { (result ≤ length before.now) × (result ≤ length classes.now) }
     ensures same { take result before.now ≡ take result classes.now }
 {
+    let front = front_by(MANY, before, classes, 0);
+    let front = front_by(FEW, before, classes, front);
+    front_by(1, before, classes, front)
+}
+
+/// The front, and as many classes more as both have in common, of which so many are compared at once.
+#[inline(always)]
+fn front_by(count: usize, before: &[ClassId], classes: &[ClassId], front: usize) -> usize
+    requires some { 0 < count }
+    requires within { (front ≤ length before.now) × (front ≤ length classes.now) }
+    requires same { take front before.now ≡ take front classes.now }
+    ensures within { (result ≤ length before.now) × (result ≤ length classes.now) }
+    ensures same { take result before.now ≡ take result classes.now }
+{
     let most = before.len().min(classes.len());
-    let mut front = 0;
-    while most - front >= STEP
-        && are_same(&before[front..front + STEP], &classes[front..front + STEP])
-    {
-        front += STEP;
+    let mut end = front;
+    while most - end >= count && are_same(&before[end..end + count], &classes[end..end + count]) {
+        end += count;
     }
-    if most - front >= HALF
-        && are_same(&before[front..front + HALF], &classes[front..front + HALF])
-    {
-        front += HALF;
-    }
-    while front < most && before[front] == classes[front] {
-        front += 1;
-    }
-    front
+    end
 }
 
 /// Whether the classes are the same. All are compared, without a branch at each.
