@@ -147,3 +147,21 @@ line-number text new bytes word copied number more start first same long some is
     ∙ ap (λ (l : List ℕ). text ++ l) (take-front field more (32 - first) (first + 32 - first) (sym wide) (omega arith))
     ∙ sym (append_assoc text word (9 ∷ (number ++ 9 ∷ [])))
     ∙ sym (append_assoc (text ++ word) (9 ∷ number) (9 ∷ []))
+
+-- three numbers with a byte between each two, of which none is taken with them that is behind
+pub three-numbers : (text new bytes a b c more : List ℕ) (start : ℕ) → start + length a + (1 + length b) + (1 + length c) ≡ 24 → drop start bytes ≡ a ++ ((58 ∷ b) ++ ((62 ∷ c) ++ more))
+    → new ≡ text ++ take (24 - start) (take (start + 24 - start) (drop start bytes)) → new ≡ text ++ ((((a ++ 58 ∷ []) ++ b) ++ 62 ∷ []) ++ c)
+three-numbers text new bytes a b c more start long e put =
+    let field : List ℕ = (((a ++ 58 ∷ []) ++ b) ++ 62 ∷ []) ++ c in
+    let joined : a ++ ((58 ∷ b) ++ ((62 ∷ c) ++ more)) ≡ field ++ more = simp append_assoc in
+    let wide : length field ≡ 24 - start = omega (
+      arith,
+      length-append (((a ++ 58 ∷ []) ++ b) ++ 62 ∷ []) c,
+      length-append ((a ++ 58 ∷ []) ++ b) (62 ∷ []),
+      length-append (a ++ 58 ∷ []) b,
+      length-append a (58 ∷ []),
+      long,
+    ) in
+    put
+    ∙ ap (λ (l : List ℕ). text ++ take (24 - start) (take (start + 24 - start) l)) (e ∙ joined)
+    ∙ ap (λ (l : List ℕ). text ++ l) (take-front field more (24 - start) (start + 24 - start) (sym wide) (omega arith))

@@ -6,8 +6,9 @@ ghost use Rattle.ot_theory.specs.Languages.{condition_of};
 ghost use Rattle.refutation.specs.Terms.{are_terms, terms_in, term_of};
 ghost use Rattle.report_text.specs.Spelling as spelling;
 
-use crate::text::Text;
+use crate::text::{Text, write_behind};
 use erc_vectors::{ConId, Condition, LIMIT, Mark, NoMemory};
+use itoa::write_digits;
 use refutation::{Term, fusion_of};
 use violation_profiles::Problem;
 
@@ -66,11 +67,14 @@ fn put_terms(text: &mut Text, terms: &[Term]) -> Result<(), NoMemory>
     Ok(())
 }
 
-/// A term: its input, its winner and its loser, by their numbers from 1 on.
+/// A term: its input, its winner and its loser, by their numbers from 1 on. They are put together from the last to the first,
+/// and written at once.
 pub(crate) fn put_term(text: &mut Text, term: &Term) -> Result<(), NoMemory>
     ensures { OnOk result (text.new ≡ text.old ++ spelling.term (term_of term.now)) }
 {
-    text.number(term.input.0 as usize + 1)?;
-    text.byte_and_number(b':', term.winner.0 as usize + 1)?;
-    text.byte_and_number(b'>', term.loser.0 as usize + 1)
+    let mut bytes = [b' '; 48];
+    let loser = write_behind(b'>', term.loser.0 as u64 + 1, &mut bytes, 24);
+    let winner = write_behind(b':', term.winner.0 as u64 + 1, &mut bytes, loser);
+    let start = write_digits(term.input.0 as u64 + 1, &mut bytes, winner);
+    text.put_front(&bytes[start..start + 24], 24 - start)
 }

@@ -1,6 +1,6 @@
 //! A text that grows at its end, by bytes, numbers and fields.
 
-ghost use Rattle.std.specs.Prelude.{◌≡◌, [], ◌∷◌, ◌++◌, ◌≤◌, OnOk, decimal, length, take, if◌then◌else◌};
+ghost use Rattle.std.specs.Prelude.{◌≡◌, [], ◌∷◌, ◌++◌, ◌+◌, ◌≤◌, OnOk, decimal, length, take, drop, if◌then◌else◌};
 ghost use Rattle.report_text.specs.Spelling.{line, output};
 
 use erc_vectors::NoMemory;
@@ -98,7 +98,7 @@ impl Text {
     /// The first of some bytes. All are written, since a number of bytes that is fixed is written without a call, and those
     /// behind them are cut off again.
     #[inline(always)]
-    fn put_front(&mut self, bytes: &[u8], count: usize) -> Result<(), NoMemory>
+    pub(crate) fn put_front(&mut self, bytes: &[u8], count: usize) -> Result<(), NoMemory>
         requires { count ≤ length bytes.now }
         ensures { OnOk result (self.new ≡ self.old ++ take count bytes.now) }
     {
@@ -229,4 +229,16 @@ impl Text {
     {
         self.byte(b'\n')
     }
+}
+
+/// Writes a number behind a byte, so that they end at a place. The answer is where they start.
+pub(crate) fn write_behind(byte: u8, n: u64, bytes: &mut [u8], end: usize) -> usize
+    requires room { 1 + length (decimal n) ≤ end }
+    requires within { end ≤ length bytes.old }
+    ensures start { result + (1 + length (decimal n)) ≡ end }
+    ensures written { drop result bytes.new ≡ byte ∷ decimal n ++ drop end bytes.old }
+{
+    let start = write_digits(n, bytes, end);
+    bytes[start - 1] = byte;
+    start - 1
 }
