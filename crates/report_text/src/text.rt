@@ -120,7 +120,9 @@ impl Text {
         self.number_between(b'\t', n, b'\t')
     }
 
-    /// The same where the word is short: all is put together and written at once.
+    /// The same where the word is short: all is put together and written at once. Inlined, it copies a word of known length
+    /// without a call.
+    #[inline(always)]
     fn short_line_number(&mut self, word: &[u8], n: usize) -> Result<(), NoMemory>
         requires { length word.now ≤ SHORT }
         ensures { OnOk result (self.new ≡ self.old ++ word.now ++ 9 ∷ decimal n ++ 9 ∷ []) }
