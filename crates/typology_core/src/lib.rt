@@ -21,7 +21,7 @@ mod walk;
 pub use laws::{lone_search_has_one_run, lone_search_is_a_run};
 pub use ot_base::PLACE_LIMIT;
 pub use schedule::run_schedule;
-pub use search::{Alone, search_alone};
+pub use search::{Alone, search_alone, typology_of};
 pub use search_deeds::{Deed, Deeds, Fate, deeds_go, gather};
 pub use search_machine::{
     Machine, Step, StepRefused, WORKER_LIMIT, each_choice_stands_once, facts_are_kept,

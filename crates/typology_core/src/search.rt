@@ -10,6 +10,7 @@ ghost use Rattle.typology_core.specs.Rounds.{CountsLoneLearns};
 
 use crate::learning::learns;
 use crate::walk::{Found, Path, walk};
+use cut_list::CompactTypology;
 use erc_vectors::NoMemory;
 use ot_base::INPUT_LIMIT;
 use refutation::Typology;
@@ -22,6 +23,26 @@ use violation_profiles::Problem;
 pub struct Alone {
     pub typology: Typology,
     pub learns: u64,
+}
+
+/// The typology of a problem, whose cuts are kept by what each does not share with the one before: its languages, each with its least
+/// hierarchy (Tesar and Smolensky 2000), and its cuts, each with a certificate (Prince 2002), as `gather` gives them.
+pub fn typology_of(alloc: Global, p: &Problem) -> Result<CompactTypology, NoMemory>
+    ensures languages { IfOk result (λ typology. IsTypology p.now (found_of typology.languages)) }
+    ensures cuts { IfOk result (λ typology. cuts_of typology.cuts ≡ map (λ cut. (cut, certificate_named p.now cut)) (cuts p.now)) }
+    ensures certificates { IfOk result (λ typology. certificates_of typology.certificates ≡ certificates p.now) }
+    ensures genuine { IfOk result (λ typology. AreGenuine p.now typology.certificates) }
+    ensures named { IfOk result (λ typology. AreNamed (length typology.certificates) typology.cuts) }
+{
+    let mut ready = Ready::new(alloc, p)?;
+    let mut path = Path::start(alloc);
+    let mut found = Found::nothing(alloc, p)?;
+    walk(alloc, p, &mut ready, &mut path, &mut found)?;
+    Ok(CompactTypology {
+        languages: found.languages,
+        cuts: found.cuts,
+        certificates: found.certificates,
+    })
 }
 
 /// The typology of a problem, found by one worker with at most 4,096 places for contradictions: its languages, each with its least
@@ -42,23 +63,21 @@ pub fn search_alone(alloc: Global, p: &Problem, places: usize) -> Result<Alone, 
     ensures named { IfOk result (λ alone. AreNamed (length alone.typology.certificates) alone.typology.cuts) }
     ensures learns { IfOk result (λ alone. CountsLoneLearns p.now places alone.learns) }
 {
-    let mut ready = Ready::new(alloc, p)?;
-    let mut path = Path::start(alloc);
-    let mut found = Found::nothing(alloc, p)?;
-    walk(alloc, p, &mut ready, &mut path, &mut found)?;
+    let found = typology_of(alloc, p)?;
+    let cuts = found.cuts.listed(alloc)?;
     prove!(p.inputs() <= INPUT_LIMIT);
     prove!(found.languages.len() <= usize::MAX);
     let learns = learns(
         alloc,
         p,
-        found.cuts.as_slice(),
+        cuts.as_slice(),
         found.certificates.len(),
         places,
     )?;
     Ok(Alone {
         typology: Typology {
             languages: found.languages,
-            cuts: found.cuts,
+            cuts,
             certificates: found.certificates,
         },
         learns,

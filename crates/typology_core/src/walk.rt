@@ -20,10 +20,11 @@ ghost use Rattle.search_deeds.specs.Gathered.{first_refuting};
 ghost use Rattle.search_deeds.specs.Made.{AreMade};
 ghost use Rattle.typology_core.specs.Walked.{AreAllBelow, AreMore, IsDone, IsEntered, IsFoundOf, IsJudged, IsLower, IsPathOf, IsReached, IsSamePath, IsSettled, IsToOpen, prefix_of};
 
+use cut_list::CutList;
 use demotion::least_hierarchy;
 use erc_vectors::{Condition, List, NoMemory, Strata};
 use ot_base::{ClassId, INPUT_LIMIT, InId};
-use refutation::{Asked, Contradiction, Cut, Language, Prefix, core_of_conditions};
+use refutation::{Asked, Contradiction, Language, Prefix, core_of_conditions};
 use search_deeds::{Index, Ready, place_of};
 use std::alloc::Global;
 use violation_profiles::Problem;
@@ -39,7 +40,7 @@ pub(crate) struct Path {
 #[derive(Debug, Drop)]
 pub(crate) struct Found {
     pub(crate) languages: List<Language>,
-    pub(crate) cuts: List<Cut>,
+    pub(crate) cuts: CutList,
     pub(crate) certificates: List<Contradiction>,
     pub(crate) index: Index,
 }
@@ -202,7 +203,7 @@ fn enter(
     let input = InId(path.classes.len() as u32);
     go_on(&mut path.classes, class)?;
     if let Some(place) = found.place_of(p, path.classes.as_slice()) {
-        found.add_cut(alloc, path.classes.as_slice(), place)?;
+        found.add_cut(path.classes.as_slice(), place)?;
         path.classes.truncate(input.0 as usize);
         return Ok(None);
     }
@@ -302,7 +303,7 @@ impl Found {
     {
         Ok(Found {
             languages: List::new(alloc),
-            cuts: List::new(alloc),
+            cuts: CutList::new(alloc),
             certificates: List::new(alloc),
             index: Index::new(alloc, p)?,
         })
@@ -320,21 +321,13 @@ impl Found {
     }
 
     /// Adds a cut that names a certificate.
-    fn add_cut(
-        &mut self,
-        alloc: Global,
-        classes: &[ClassId],
-        certificate: usize,
-    ) -> Result<(), NoMemory>
+    fn add_cut(&mut self, classes: &[ClassId], certificate: usize) -> Result<(), NoMemory>
         ensures cuts { OnOk result (self.new.cuts ≡ self.old.cuts ++ (record { prefix = class_numbers classes.now; certificate = certificate }) ∷ []) }
         ensures languages { self.new.languages ≡ self.old.languages }
         ensures certificates { self.new.certificates ≡ self.old.certificates }
         ensures index { self.new.index ≡ self.old.index }
     {
-        self.cuts.push(Cut {
-            prefix: Prefix::of(alloc, classes)?,
-            certificate,
-        })
+        self.cuts.push(classes, certificate)
     }
 
     /// Adds a cut beside its own certificate.
@@ -352,7 +345,7 @@ impl Found {
         let place = self.certificates.len();
         self.index.add(p, certificate.terms.as_slice(), place)?;
         self.certificates.push(certificate)?;
-        self.add_cut(alloc, path.classes.as_slice(), place)
+        self.add_cut(path.classes.as_slice(), place)
     }
 
     /// Adds a language.
