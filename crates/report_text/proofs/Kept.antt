@@ -35,17 +35,14 @@ written-short front classes kept e =
     omega (arith, ap (λ (l : List ℕ). length l) (e ∙ written-front front classes), length-append (written (take front classes)) (written (drop front classes)), ap (λ (l : List ClassId). length (written l)) (rest-all front classes))
 
 -- what is left of the text without them
-pub written-left : (front : ℕ) (before classes : List ClassId) (kept new : List ℕ) → take front before ≡ take front classes → kept ≡ written before → new ≡ take (length kept - length (written (rest front before))) kept
-    → new ≡ written (take front classes) ++ []
-written-left front before classes kept new same e left =
+pub written-left : (front : ℕ) (before : List ClassId) (kept new : List ℕ) → kept ≡ written before → new ≡ take (length kept - length (written (rest front before))) kept → new ≡ written (take front before)
+written-left front before kept new e left =
     let whole : kept ≡ written (take front before) ++ written (drop front before) = e ∙ written-front front before in
     let long = length-append (written (take front before)) (written (drop front before)) in
     let behind = ap (λ (l : List ClassId). length (written l)) (rest-all front before) in
     left
     ∙ ap (λ (l : List ℕ). take (length kept - length (written (rest front before))) l) whole
     ∙ take_at (written (take front before)) (written (drop front before)) (length kept - length (written (rest front before))) (omega (arith, long, behind, ap (λ (l : List ℕ). length l) whole))
-    ∙ ap written same
-    ∙ sym (append-nil (written (take front classes)))
 
 -- once the classes behind the front are written too, all are
 pub written-all : (front k : ℕ) (classes : List ClassId) (kept : List ℕ) → length (rest front classes) ≤ k → kept ≡ written (take front classes) ++ written (take k (drop front classes)) → kept ≡ written classes
@@ -83,14 +80,6 @@ pub written-prefix : (classes : List ClassId) (bytes : List ℕ) → (length cla
 written-prefix [] bytes some e = absurd (some refl)
 written-prefix (class ∷ classes) bytes some e =
     take_all (length bytes - 1) (drop 1 bytes) (omega (arith, length-drop 1 bytes)) ∙ ap (λ (l : List ℕ). drop 1 l) e ∙ spaced-behind (map (λ a. a + 1) (class_numbers (class ∷ classes)))
-
--- both begin with some classes more
-pub front-more : (front k m : ℕ) (xs ys : List ClassId) → m ≡ k → take front xs ≡ take front ys → take m (drop front xs) ≡ take m (drop front ys) → take (front + k) xs ≡ take (front + k) ys
-front-more front k m xs ys e same more =
-    take-add front k xs
-    ∙ ap (λ (l : List ClassId). l ++ take k (drop front xs)) same
-    ∙ ap (λ (l : List ClassId). take front ys ++ l) (subst (λ (j : ℕ). take j (drop front xs) ≡ take j (drop front ys)) e more)
-    ∙ sym (take-add front k ys)
 
 -- the last digit, and those before it
 pub digits-step : (n : ℕ) → 10 ≤ n → n < 2 ^ 64 → length (decimal n) ≡ length (decimal (n / 10)) + 1

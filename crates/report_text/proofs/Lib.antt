@@ -15,6 +15,7 @@ pub mod Spelled
 pub mod Strata
 pub mod Heads
 pub mod TypologyLines
+pub mod CutLines
 pub mod ReadBack
 pub mod NoGaps
 pub mod TrueTypologies

@@ -41,4 +41,4 @@ pub use laws::{
 pub use rank::rank_text;
 pub use report_reader::{REPORT_LIMIT, TextError, read_typology_text};
 pub use torder::torder_text;
-pub use typology::typology_text;
+pub use typology::{compact_typology_text, typology_text};

@@ -4,5 +4,4 @@ use Rattle.report_text.proofs.typology.typology_text.Goals as goal
 
 pub returns : goal.returns
 unfolding typology_report
-returns c =
-    rw (c.into_label.ensures, c.in_ok-put.ensures, c.in_ok-put_cuts.ensures, c.as_slice-3.ensures, c.in_ok-put_certificates.ensures, c.as_slice-2.ensures, c.in_ok-put_languages.ensures, c.as_slice.ensures, c.in_ok-put_head.ensures, c.new-text.ensures) refl
+returns c = rw (c.into_label.ensures, c.in_ok-put.ensures, c.in_ok-put_cuts.ensures, c.as_slice.ensures, c.in_ok-text.ensures, c.as_slice-certificates.ensures, c.as_slice-languages.ensures) refl

@@ -1,6 +1,0 @@
--- the first ones are the same
-use Rattle.std.proofs.Common.{◌≡◌, true, take}
-use Rattle.report_text.proofs.prefixes.are_same.Given as goal
-
-abbrev pub invariant-loop-k : goal.invariant-loop-k
-invariant-loop-k l = l.same ≡ true → take l.k l.before ≡ take l.k l.classes
