@@ -3,6 +3,7 @@ use Rattle.std.specs.Prelude.{◌≡◌, ⊤, ℕ, List, length, nat_lt, if◌th
 use Rattle.ot_theory.specs.Problems.{Problem}
 use Rattle.demonstration_file.specs.Demonstration.{demonstration_file}
 use Rattle.refutation.specs.Typologies.{certificates_of, cuts_of, found_of}
+use Rattle.refutation.specs.declared.typology.Language.{Language}
 use Rattle.refutation.specs.declared.typology.Typology.{Typology}
 use Rattle.report_text.specs.Listings.{torder_report}
 use Rattle.report_text.specs.Reports.{typology_report}
@@ -38,14 +39,14 @@ abbrev pub summary_of : ℕ → Posed → Typology → List ℕ
 summary_of number posed typology =
     demo_report number (length (demonstration_file number)) (length typology.languages) (length typology.certificates) (length typology.cuts) (length (report_of posed typology))
 
--- the report of the implications that the languages of a found typology tell
-abbrev pub listing_of : Posed → Typology → List ℕ
-listing_of posed typology = torder_report posed.tableau posed.problem (implications_by posed.problem (choices_of typology.languages))
+-- the report of the implications that languages which were found tell
+abbrev pub listing_of : Posed → List Language → List ℕ
+listing_of posed languages = torder_report posed.tableau posed.problem (implications_by posed.problem (choices_of languages))
 
 -- The report of a command is made from a typology.
 abbrev pub IsMadeFrom : Settings → Posed → Typology → List ℕ → Type 0
 IsMadeFrom (asks.Typology file workers places schedule) posed typology report = report ≡ report_of posed typology
-IsMadeFrom (asks.Torder file workers places) posed typology report = report ≡ listing_of posed typology
+IsMadeFrom (asks.Torder file workers places) posed typology report = report ≡ listing_of posed typology.languages
 IsMadeFrom (asks.Rank file faith) posed typology report = ⊤
 IsMadeFrom (asks.Bases file) posed typology report = ⊤
 IsMadeFrom (asks.Hasse file) posed typology report = ⊤

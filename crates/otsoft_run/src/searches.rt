@@ -2,6 +2,8 @@
 
 ghost use Rattle.std.specs.Prelude.{◌≡◌, ◌≤◌, IfOk, None, MatchOption, length, map};
 ghost use Rattle.ot_base.specs.Tableaus.{problem_of};
+ghost use Rattle.ot_theory.specs.Languages.{IsTypology};
+ghost use Rattle.refutation.specs.Typologies.{found_of};
 ghost use Rattle.ot_base.specs.declared.limits.TheConstants.{PLACE_LIMIT};
 ghost use Rattle.search_machine.specs.declared.machine.TheConstants.{WORKER_LIMIT};
 ghost use Rattle.otsoft_run.specs.declared.status.Status.{Status};
@@ -15,12 +17,12 @@ use crate::status::Status;
 use demonstration_file::FILE_BYTES;
 use erc_vectors::NoMemory;
 use ot_base::{Gate, Label};
-use refutation::Typology;
-use report_text::{demo_text, torder_text, typology_text};
+use refutation::{Language, Typology};
+use report_text::{compact_typology_text, demo_text, torder_text, typology_text};
 use std::alloc::Global;
 use std::thread::Threads;
 use t_orders::implications;
-use typology_core::{run_schedule, search_alone};
+use typology_core::{run_schedule, search_alone, typology_of};
 use typology_workers::search;
 
 /// The report of the languages, cuts and certificates of a tableau, found with so many places for contradictions by so many workers:
@@ -52,13 +54,10 @@ pub(crate) fn typology_answer<R: Threads + Sync, G: Gate>(
                 found: None,
             })
         }
-        None if workers == 1 => {
-            let alone = search_alone(alloc, &posed.problem, places)?;
-            Ok(Answer {
-                report: done(typology_report(alloc, posed, &alone.typology)?),
-                found: None,
-            })
-        }
+        None if workers == 1 => Ok(Answer {
+            report: done(lone_report(alloc, posed)?),
+            found: None,
+        }),
         None => {
             let found = search(threads, alloc, &posed.problem, workers, places, gate)?;
             Ok(Answer {
@@ -84,18 +83,26 @@ pub(crate) fn torder_answer<R: Threads + Sync, G: Gate>(
     requires poses { posed.now.problem ≡ problem_of posed.now.tableau }
     ensures report { IfOk result (λ answer. IsTorderReport posed.now answer.report.text) }
     ensures status { IfOk result (λ answer. answer.report.status ≡ Status.Done) }
-    ensures search { IfOk result (λ answer. IsSearchBy posed.now.problem workers places (λ typology. answer.report.text ≡ listing_of posed.now typology) answer.found) }
+    ensures search { IfOk result (λ answer. IsSearchBy posed.now.problem workers places (λ typology. answer.report.text ≡ listing_of posed.now typology.languages) answer.found) }
 {
     if workers == 1 {
-        let alone = search_alone(alloc, &posed.problem, places)?;
+        let typology = typology_of(alloc, &posed.problem)?;
         return Ok(Answer {
-            report: done(torder_report(alloc, posed, &alone.typology)?),
+            report: done(torder_report(
+                alloc,
+                posed,
+                typology.languages.as_slice(),
+            )?),
             found: None,
         });
     }
     let found = search(threads, alloc, &posed.problem, workers, places, gate)?;
     Ok(Answer {
-        report: done(torder_report(alloc, posed, &found.typology)?),
+        report: done(torder_report(
+            alloc,
+            posed,
+            found.typology.languages.as_slice(),
+        )?),
         found: Some(found),
     })
 }
@@ -153,14 +160,27 @@ fn typology_report(alloc: Global, posed: &Posed, typology: &Typology) -> Result<
     typology_text(alloc, &posed.tableau, &posed.problem, typology)
 }
 
-/// The report of the implications between the outputs of a problem, read off the languages of its typology.
-fn torder_report(alloc: Global, posed: &Posed, typology: &Typology) -> Result<Label, NoMemory>
+/// The report of the typology of a problem, which one worker finds.
+fn lone_report(alloc: Global, posed: &Posed) -> Result<Label, NoMemory>
+    requires { posed.now.problem ≡ problem_of posed.now.tableau }
+    ensures { IfOk result (IsTypologyReport posed.now) }
+{
+    let typology = typology_of(alloc, &posed.problem)?;
+    compact_typology_text(alloc, &posed.tableau, &posed.problem, &typology)
+}
+
+/// The report of the implications between the outputs of a problem, read off its languages.
+fn torder_report(
+    alloc: Global,
+    posed: &Posed,
+    languages: &[Language],
+) -> Result<Label, NoMemory>
     requires poses { posed.now.problem ≡ problem_of posed.now.tableau }
-    requires found { IsTypologyOf posed.now.problem typology.now }
-    ensures made { IfOk result (λ report. report ≡ listing_of posed.now typology.now) }
+    requires found { IsTypology posed.now.problem (found_of languages.now) }
+    ensures made { IfOk result (λ report. report ≡ listing_of posed.now languages.now) }
     ensures right { IfOk result (IsTorderReport posed.now) }
 {
-    let list = implications(alloc, &posed.problem, typology.languages.as_slice())?;
+    let list = implications(alloc, &posed.problem, languages)?;
     torder_text(alloc, &posed.tableau, &posed.problem, list.as_slice())
 }
 
