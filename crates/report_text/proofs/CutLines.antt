@@ -1,5 +1,5 @@
 -- The lines of the first cuts.
-use Rattle.std.proofs.Common.{◌≡◌, ℕ, ◌+◌, ◌<◌, List, ◌++◌, length, get_or, take, map, flat_map, append_assoc, ap, ◌∙◌}
+use Rattle.std.proofs.Common.{◌≡◌, ℕ, ◌+◌, ◌<◌, List, ◌++◌, length, get_or, take, map, flat_map, append_assoc}
 use Rattle.std.specs.List.{enumerate_from}
 use Rattle.refutation.specs.Typologies.{cuts_of}
 use Rattle.refutation.specs.declared.typology.Cut.{Cut}

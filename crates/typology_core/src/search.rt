@@ -67,13 +67,7 @@ pub fn search_alone(alloc: Global, p: &Problem, places: usize) -> Result<Alone, 
     let cuts = found.cuts.listed(alloc)?;
     prove!(p.inputs() <= INPUT_LIMIT);
     prove!(found.languages.len() <= usize::MAX);
-    let learns = learns(
-        alloc,
-        p,
-        cuts.as_slice(),
-        found.certificates.len(),
-        places,
-    )?;
+    let learns = learns(alloc, p, cuts.as_slice(), found.certificates.len(), places)?;
     Ok(Alone {
         typology: Typology {
             languages: found.languages,

@@ -1,4 +1,4 @@
-use Rattle.std.proofs.Common.{[], ◌++◌, ℕ, List, arith, ap, sym, take, ◌∙◌}
+use Rattle.std.proofs.Common.{◌++◌, ℕ, List, arith, ap, sym, take, ◌∙◌}
 use Rattle.std.proofs.lemmas.Bool.{eqb-false}
 use Rattle.std.proofs.lemmas.List.{append-nil}
 use Rattle.std.proofs.lemmas.Result.{on_ok_weaker}

@@ -1,4 +1,4 @@
-use Rattle.std.proofs.Common.{◌≡◌, ◌+◌, List, Some, [], ◌∷◌, ◌++◌, ap, sym, take, ◌∙◌}
+use Rattle.std.proofs.Common.{◌≡◌, List, Some, [], ◌∷◌, ◌++◌, ap, sym, take, ◌∙◌}
 use Rattle.std.specs.Prelude.{slice_get}
 use Rattle.ot_base.specs.declared.tableau.ClassId.{ClassId}
 use Rattle.refutation.specs.Prefixes.{class_numbers}
