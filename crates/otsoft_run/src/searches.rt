@@ -88,21 +88,13 @@ pub(crate) fn torder_answer<R: Threads + Sync, G: Gate>(
     if workers == 1 {
         let typology = typology_of(alloc, &posed.problem)?;
         return Ok(Answer {
-            report: done(torder_report(
-                alloc,
-                posed,
-                typology.languages.as_slice(),
-            )?),
+            report: done(torder_report(alloc, posed, typology.languages.as_slice())?),
             found: None,
         });
     }
     let found = search(threads, alloc, &posed.problem, workers, places, gate)?;
     Ok(Answer {
-        report: done(torder_report(
-            alloc,
-            posed,
-            found.typology.languages.as_slice(),
-        )?),
+        report: done(torder_report(alloc, posed, found.typology.languages.as_slice())?),
         found: Some(found),
     })
 }
@@ -170,11 +162,7 @@ fn lone_report(alloc: Global, posed: &Posed) -> Result<Label, NoMemory>
 }
 
 /// The report of the implications between the outputs of a problem, read off its languages.
-fn torder_report(
-    alloc: Global,
-    posed: &Posed,
-    languages: &[Language],
-) -> Result<Label, NoMemory>
+fn torder_report(alloc: Global, posed: &Posed, languages: &[Language]) -> Result<Label, NoMemory>
     requires poses { posed.now.problem ≡ problem_of posed.now.tableau }
     requires found { IsTypology posed.now.problem (found_of languages.now) }
     ensures made { IfOk result (λ report. report ≡ listing_of posed.now languages.now) }
