@@ -1,6 +1,6 @@
 //! The front that two lists of classes have in common.
 
-ghost use Rattle.std.specs.Prelude.{◌≡◌, ◌<◌, ◌≤◌, IsTrue, length, take};
+ghost use Rattle.std.specs.Prelude.{◌≡◌, ℕ, ◌+◌, ◌<◌, ◌≤◌, true, false, length, take};
 
 use ot_base::ClassId;
 
@@ -10,10 +10,11 @@ const MANY: usize = 32;
 /// How many are compared at once where fewer are left.
 const FEW: usize = 4;
 
-/// A number of classes with which both begin, and behind which they differ or one of them ends.
+/// The greatest number of classes with which both begin.
 pub fn common_front(before: &[ClassId], classes: &[ClassId]) -> usize
     ensures within { (result ≤ length before.now) × (result ≤ length classes.now) }
     ensures same { take result before.now ≡ take result classes.now }
+    ensures greatest { (n : ℕ) → n ≤ length before.now → n ≤ length classes.now → take n before.now ≡ take n classes.now → n ≤ result }
 {
     let front = front_by(MANY, before, classes, 0);
     let front = front_by(FEW, before, classes, front);
@@ -28,6 +29,7 @@ fn front_by(count: usize, before: &[ClassId], classes: &[ClassId], front: usize)
     requires same { take front before.now ≡ take front classes.now }
     ensures within { (result ≤ length before.now) × (result ≤ length classes.now) }
     ensures same { take result before.now ≡ take result classes.now }
+    ensures ended { result + count ≤ length before.now → result + count ≤ length classes.now → take (result + count) before.now ≡ take (result + count) classes.now → ⊥ }
 {
     let most = before.len().min(classes.len());
     let mut end = front;
@@ -40,7 +42,8 @@ fn front_by(count: usize, before: &[ClassId], classes: &[ClassId], front: usize)
 /// Whether the classes are the same. All are compared, without a branch at each.
 fn are_same(before: &[ClassId], classes: &[ClassId]) -> bool
     requires { length before.now ≡ length classes.now }
-    ensures { IsTrue result → before.now ≡ classes.now }
+    ensures same { result ≡ true → before.now ≡ classes.now }
+    ensures differ { result ≡ false → before.now ≡ classes.now → ⊥ }
 {
     let mut same = true;
     for k in 0..before.len() {
