@@ -15,12 +15,7 @@ use Rattle.ot_theory.specs.Demotion.{is_closed, is_blocked}
 use Rattle.ot_theory.proofs.Demotion.{closed-placed}
 use Rattle.ot_theory.proofs.Strata.{mark_at-within}
 use Rattle.hasse_listing.specs.Covers.{over}
-
-pub length-over : (n c d : ℕ) → length (over n c d) ≡ n
-length-over n c d = length-map-range_with_len (λ (k : ℕ). cond (k == c) W (cond (k == d) L E)) 0 n
-
-mark_at-over : (n c d k : ℕ) → k < n → mark_at (over n c d) k ≡ cond (k == c) W (cond (k == d) L E)
-mark_at-over n c d k below = get_or-map-range_with_len (λ (j : ℕ). cond (j == c) W (cond (j == d) L E)) 0 n k k E below (omega arith)
+pub use Rattle.ot_theory.proofs.Pairs.{length-over, mark_at-over}
 
 pub over-above : (n c d : ℕ) → c < n → mark_at (over n c d) c ≡ W
 over-above n c d below = mark_at-over n c d c below ∙ rw (eq-eqb c c refl) refl

@@ -1,15 +1,11 @@
 -- Which constraints stand above which in every ranking that keeps a set of conditions.
-use Rattle.std.specs.Prelude.{ℕ, Bool, not, ◌&&◌, ◌==◌, List, map, filter, flat_map, if◌then◌else◌}
+use Rattle.std.specs.Prelude.{ℕ, Bool, not, ◌&&◌, ◌==◌, List, map, filter, flat_map}
 use Rattle.std.specs.List.{list_any}
 use Rattle.ot_theory.specs.declared.Mark.{Mark}
-use Rattle.ot_theory.specs.declared.Mark.TheVariants.{W, L, E}
 use Rattle.ot_theory.specs.Rankings.{numbers_below}
+pub use Rattle.ot_theory.specs.Conditions.{over}
 use Rattle.ot_theory.specs.Entailment.{entails}
 use Rattle.erc_vectors.specs.declared.cover.Cover.{Cover}
-
--- the condition with W at c, L at d and e elsewhere: it is kept where c stands above d
-abbrev pub over : ℕ → ℕ → ℕ → List Mark
-over n c d = map (λ k. if k == c then W else if k == d then L else E) (numbers_below n)
 
 -- Constraint c stands necessarily above d where the set entails the condition with W at c, L at d and e elsewhere.
 abbrev pub necessarily_above : ℕ → List (List Mark) → ℕ → ℕ → Bool

@@ -1,6 +1,6 @@
 -- The certificate of terms that no ranking keeps is a contradiction, each of whose terms is needed; and what a contradiction
 -- refutes is refuted.
-use Rattle.std.proofs.Common.{◌≡◌, ℕ, zero, suc, ◌+◌, ◌<◌, ◌≤◌, List, [], ◌∷◌, ◌++◌, Bool, true, false, not, ◌&&◌, ◌==◌, arith, refl, sym, ◌∙◌, ap, cond, inl, inr, length, map}
+use Rattle.std.proofs.Common.{◌≡◌, ℕ, zero, suc, ◌+◌, ◌<◌, ◌≤◌, List, [], ◌∷◌, ◌++◌, Bool, true, false, not, ◌&&◌, ◌==◌, arith, refl, sym, ◌∙◌, ap, cond, inl, inr, length, map, flat_map}
 use Rattle.std.specs.Prelude.{filter, slice_get, nat_lt}
 use Rattle.std.specs.List.{list_all, list_any, range_with_len, enumerate_from}
 use Rattle.std.specs.Option.{option_map_or}
@@ -8,17 +8,17 @@ use Rattle.std.proofs.lemmas.Bool.{and_parts, and_from, false_from_ne_true, ltb-
 use Rattle.std.proofs.Math.Bool.{and_assoc}
 use Rattle.std.proofs.lemmas.Bool.Decides.{eqb_tells, nat_tests}
 use Rattle.std.proofs.lemmas.List.{map-append}
-use Rattle.std.proofs.lemmas.List.Folds.{list_all-map}
+use Rattle.std.proofs.lemmas.List.Folds.{list_all-append, list_all-map}
 use Rattle.ot_theory.specs.declared.Mark.{Mark}
 use Rattle.ot_theory.specs.Rankings.{numbers_below}
 use Rattle.ot_theory.specs.Conditions.{is_loss, fusion, is_contradictory}
-use Rattle.ot_theory.specs.Problems.{Problem}
-use Rattle.ot_theory.specs.Languages.{Term, classes_at, terms_of_class, terms_of, condition_of, conditions_of, refuted}
-use Rattle.ot_theory.specs.Refutations.{no_ranking_keeps, is_term, agree, one_winner_each, is_contradiction, refutes, certificate_of, EachIsNeeded}
+use Rattle.ot_theory.specs.Problems.{Problem, givens}
+use Rattle.ot_theory.specs.Languages.{Term, Loser, Given, classes_at, terms_of_class, terms_of_givens, terms_of, condition_of, conditions_of, refuted}
+use Rattle.ot_theory.specs.Refutations.{no_ranking_keeps, is_term, agree, one_winner_each, is_contradiction, is_made, refutes, certificate_of, EachIsNeeded}
 use Rattle.ot_theory.proofs.Enumeration.{any-map}
 use Rattle.ot_theory.proofs.Strata.{any-range}
 use Rattle.ot_theory.proofs.Hopeless.{fused_at, hopeless-fused}
-use Rattle.ot_theory.proofs.Optimal.{AllFit, all-flat_map, refuted-conditions}
+use Rattle.ot_theory.proofs.Optimal.{IsFitting, all-flat_map, refuted-conditions}
 use Rattle.ot_theory.proofs.Deletion.{kept_of-passes, kept_of-needed, kept_of-all}
 use Rattle.ot_theory.proofs.Sets.{is_hopeless, IsMonotone-hopeless, no_ranking_keeps-more}
 use Rattle.ot_theory.proofs.ContradictoryParts.{EachNeeded, contradictory-needed}
@@ -130,19 +130,31 @@ at_number r s a (suc n) d h l u p = elim (eqb_tells a d) [
     rest true h = (and_parts _ _ h).1
     rest false h = h
 
--- A term whose winner choice a prefix makes is one of its terms: what all of those pass, it passes.
-term_stands : (problem : Problem) (prefix : List ℕ) (term : Term) → is_term problem term ≡ true → option_map_or (λ a. a == term.winner) (slice_get prefix term.input) false ≡ true
-    → (p : Term → Bool) → list_all p (terms_of problem prefix) ≡ true → p term ≡ true
-term_stands problem prefix term genuine made p all =
-    let other = and_parts _ (not (term.loser == term.winner)) genuine in
-    let loser = ltb-true _ _ (and_parts _ (nat_lt term.loser (length (classes_at problem term.input))) other.0).1 in
-    let at_input : list_all p (terms_of_class (classes_at problem (0 + term.input)) (0 + term.input) term.winner) ≡ true =
-    at_place (λ (i, a). list_all p (terms_of_class (classes_at problem i) i a)) 0 prefix term.input term.winner made (sym (all-flat_map p (λ (i, a). terms_of_class (classes_at problem i) i a) (enumerate_from 0 prefix)) ∙ all) in
-    let same : 0 + term.input ≡ term.input = omega arith in
-    let of_class : list_all p (terms_of_class (classes_at problem term.input) term.input term.winner) ≡ true = rw same at at_input in
-    at_number (λ b. p (record { input = term.input; winner = term.winner; loser = b })) (λ b. not (b == term.winner)) 0 (length (classes_at problem term.input)) term.loser
-    (sym (list_all-map p (λ b. record { input = term.input; winner = term.winner; loser = b }) (filter (λ b. not (b == term.winner)) (numbers_below (length (classes_at problem term.input))))) ∙ of_class)
+-- A given pair, and a term whose winner choice a prefix makes, is one of the terms of the prefix: what all of those pass, it passes.
+term_stands : (problem : Problem) (prefix : List ℕ) (term : Term) → is_term problem term ≡ true → is_made prefix term ≡ true → (p : Term → Bool) → list_all p (terms_of problem prefix) ≡ true → p term ≡ true
+term_stands problem prefix (Loser i a b) genuine made p all =
+    let other = and_parts _ (not (b == a)) genuine in
+    let loser = ltb-true _ _ (and_parts _ (nat_lt b (length (classes_at problem i))) other.0).1 in
+    let those : ℕ × ℕ → List Term = λ (j, c). terms_of_class (classes_at problem j) j c in
+    let of_classes = (and_parts _ _ (sym (list_all-append p (terms_of_givens problem) (flat_map those (enumerate_from 0 prefix))) ∙ all)).1 in
+    let at_input : list_all p (terms_of_class (classes_at problem (0 + i)) (0 + i) a) ≡ true =
+    at_place (λ (j, c). list_all p (terms_of_class (classes_at problem j) j c)) 0 prefix i a made (sym (all-flat_map p those (enumerate_from 0 prefix)) ∙ of_classes) in
+    let same : 0 + i ≡ i = omega arith in
+    let of_class : list_all p (terms_of_class (classes_at problem i) i a) ≡ true = rw same at at_input in
+    at_number (λ c. p (Loser i a c)) (λ c. not (c == a)) 0 (length (classes_at problem i)) b
+    (sym (list_all-map p (Loser i a) (filter (λ c. not (c == a)) (numbers_below (length (classes_at problem i))))) ∙ of_class)
     (omega arith) (omega arith) other.1
+term_stands problem prefix (Given k) genuine made p all =
+    let of_givens = (and_parts _ _ (sym (list_all-append p (terms_of_givens problem) (flat_map (λ (j, c). terms_of_class (classes_at problem j) j c) (enumerate_from 0 prefix))) ∙ all)).0 in
+    let below = ltb-true _ _ genuine in
+    in_range (λ c. p (Given c)) 0 (length (givens problem)) k (sym (list_all-map p Given (numbers_below (length (givens problem)))) ∙ of_givens) (omega arith) (omega arith)
+  where
+    in_range : (r : ℕ → Bool) (a n d : ℕ) → list_all r (range_with_len a n) ≡ true → a ≤ d → d < a + n → r d ≡ true
+    in_range r a zero d h l u = absurd (omega arith)
+    in_range r a (suc n) d h l u = elim (eqb_tells a d) [
+      | inl same ↦ rw (← same.1) (and_parts _ _ h).0
+      | inr other ↦ in_range r (a + 1) n d (and_parts _ _ h).1 (omega (arith, other.1)) (omega arith)
+    ]
 
 -- The terms of a contradiction that refutes a prefix are among those of the prefix.
 pub terms_stand : (problem : Problem) (prefix : List ℕ) (terms : List Term) → list_all (is_term problem) terms ≡ true → refutes terms prefix ≡ true → (p : Term → Bool) → list_all p (terms_of problem prefix) ≡ true → list_all p terms ≡ true
@@ -153,7 +165,7 @@ terms_stand problem prefix (term ∷ terms) genuine made p all =
     and_from _ _ (term_stands problem prefix term g.0 m.0 p all) (terms_stand problem prefix terms g.1 m.1 p all)
 
 -- What a contradiction refutes, no ranking makes.
-pub contradiction-refutes : (problem : Problem) (terms : List Term) (prefix : List ℕ) → AllFit problem.constraints problem.inputs prefix → is_contradiction problem terms ≡ true → refutes terms prefix ≡ true → refuted problem prefix ≡ true
+pub contradiction-refutes : (problem : Problem) (terms : List Term) (prefix : List ℕ) → IsFitting problem prefix → is_contradiction problem terms ≡ true → refutes terms prefix ≡ true → refuted problem prefix ≡ true
 unfolding is_contradiction
 contradiction-refutes problem terms prefix fits h made =
     let genuine = (and_parts _ _ (and_parts _ _ (and_parts _ _ h).0).0).1 in

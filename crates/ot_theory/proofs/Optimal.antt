@@ -1,6 +1,6 @@
 -- A class is optimal exactly where the ranking keeps its conditions over all other classes of its input.
 use Rattle.std.proofs.Common.{◌≡◌, ◌≢◌, ℕ, zero, suc, ◌+◌, ◌<◌, ◌≤◌, List, [], ◌∷◌, Bool, true, false, not, ◌||◌, ◌&&◌, ◌==◌, arith, refl, sym, ◌∙◌, ap, inl, inr, length, flat_map, slice_index_or, drop, add-one}
-use Rattle.std.specs.Prelude.{filter, nat_lt, slice_get}
+use Rattle.std.specs.Prelude.{All, filter, nat_lt, slice_get}
 use Rattle.std.specs.List.{range_with_len, list_all, list_any, enumerate_from}
 use Rattle.std.specs.Option.{option_map_or}
 use Rattle.std.proofs.lemmas.Bool.{lt-ltb}
@@ -8,12 +8,13 @@ use Rattle.std.proofs.lemmas.List.Folds.{list_all-map, list_all-append}
 use Rattle.std.proofs.lemmas.Bool.Decides.{eqb_tells}
 use Rattle.ot_theory.specs.Rankings.{better, optimal, numbers_below, IsRanking, rankings}
 use Rattle.ot_theory.specs.Conditions.{condition, keeps}
-use Rattle.ot_theory.specs.Problems.{Input, Problem}
+use Rattle.ot_theory.specs.Problems.{Input, Problem, IsPair, givens}
 pub use Rattle.ot_theory.specs.Problems.{Differ, AreClasses}
-use Rattle.ot_theory.specs.Languages.{classes_at, terms_of_class, terms_of, condition_of, conditions_of, each_optimal, holds, refuted}
+use Rattle.ot_theory.specs.Languages.{Term, Loser, classes_at, terms_of_class, terms_of_givens, terms_of, condition_of, conditions_of, each_optimal, holds, keeps_givens, refuted}
 use Rattle.ot_theory.specs.Refutations.{no_ranking_keeps}
 use Rattle.ot_theory.proofs.Enumeration.{any-ranking, ranking-found}
 use Rattle.ot_theory.proofs.Keeping.{better-keeps, first_difference}
+use Rattle.ot_theory.proofs.Pairs.{givens-kept}
 
 pub better-condition : (n : ℕ) (order : List ℕ) (classes : List (List ℕ)) (a b : ℕ) → IsRanking n order → AreClasses n classes → a < length classes → b < length classes → b ≢ a
     → better order (slice_index_or classes a []) (slice_index_or classes b []) ≡ keeps order (condition (slice_index_or classes a []) (slice_index_or classes b []))
@@ -81,7 +82,7 @@ asked order a classes = list_all (λ b. keeps order (condition (slice_index_or c
 
 class_kept : (problem : Problem) (order : List ℕ) (i a : ℕ) (input : Input) (rest : List Input) → IsRanking problem.constraints order → drop i problem.inputs ≡ input ∷ rest → Fits problem.constraints input a → keeps_class order problem (i, a) ≡ optimal order input.classes a
 class_kept problem order i a input rest ranking e f =
-    list_all-map (λ t. keeps order (condition_of problem t)) (λ b. record { input = i; winner = a; loser = b }) (filter (λ b. not (b == a)) (numbers_below (length (classes_at problem i))))
+    list_all-map (λ t. keeps order (condition_of problem t)) (Loser i a) (filter (λ b. not (b == a)) (numbers_below (length (classes_at problem i))))
     ∙ ap (asked order a) (at_drop problem.inputs i input rest e)
     ∙ sym (optimal-conditions problem.constraints order input.classes a ranking f.classes f.within)
 
@@ -94,13 +95,21 @@ prefix_kept problem order i (input ∷ rest) (a ∷ prefix) ranking e f =
     (ap (λ (b : Bool). optimal order input.classes a && b)
     (prefix_kept problem order (i + 1) rest prefix ranking (rw add-one (drop_more problem.inputs i input rest e)) f.1))
 
+-- A prefix of a problem: each input has classes, of which it names one, and each given pair is of two constraints.
+pub record IsFitting (problem : Problem) (prefix : List ℕ) : Type 0 where
+  pub classes : AllFit problem.constraints problem.inputs prefix
+  pub pairs : All (IsPair problem.constraints) (givens problem)
+
 -- A prefix holds under a ranking exactly where the ranking keeps its conditions.
-pub holds-conditions : (problem : Problem) (order prefix : List ℕ) → IsRanking problem.constraints order → AllFit problem.constraints problem.inputs prefix → holds problem order prefix ≡ list_all (keeps order) (conditions_of problem prefix)
+pub holds-conditions : (problem : Problem) (order prefix : List ℕ) → IsRanking problem.constraints order → IsFitting problem prefix → holds problem order prefix ≡ list_all (keeps order) (conditions_of problem prefix)
 holds-conditions problem order prefix ranking f =
+    let those : ℕ × ℕ → List Term = λ (i, a). terms_of_class (classes_at problem i) i a in
+    let kept = all-flat_map (λ t. keeps order (condition_of problem t)) those (enumerate_from 0 prefix) ∙ prefix_kept problem order 0 problem.inputs prefix ranking refl f.classes in
     sym (
     list_all-map (keeps order) (condition_of problem) (terms_of problem prefix)
-    ∙ all-flat_map (λ t. keeps order (condition_of problem t)) (λ (i, a). terms_of_class (classes_at problem i) i a) (enumerate_from 0 prefix)
-    ∙ prefix_kept problem order 0 problem.inputs prefix ranking refl f
+    ∙ list_all-append (λ t. keeps order (condition_of problem t)) (terms_of_givens problem) (flat_map those (enumerate_from 0 prefix))
+    ∙ ap (λ (b : Bool). b && list_all (λ t. keeps order (condition_of problem t)) (flat_map those (enumerate_from 0 prefix))) (givens-kept problem order ranking f.pairs)
+    ∙ ap (λ (b : Bool). keeps_givens problem order && b) kept
     )
 
 any_same : (n : ℕ) (p q : List ℕ → Bool) → ((order : List ℕ) → IsRanking n order → p order ≡ q order) → list_any p (rankings n) ≡ list_any q (rankings n)
@@ -118,7 +127,7 @@ any_same n p q e = by (list_any p (rankings n)) (list_any q (rankings n)) (λ h.
     by false false f g = refl
 
 -- A prefix is refuted exactly where no ranking keeps its conditions.
-pub refuted-conditions : (problem : Problem) (prefix : List ℕ) → AllFit problem.constraints problem.inputs prefix → refuted problem prefix ≡ no_ranking_keeps problem.constraints (conditions_of problem prefix)
+pub refuted-conditions : (problem : Problem) (prefix : List ℕ) → IsFitting problem prefix → refuted problem prefix ≡ no_ranking_keeps problem.constraints (conditions_of problem prefix)
 unfolding refuted no_ranking_keeps
 refuted-conditions problem prefix f =
     ap not (any_same problem.constraints (λ order. holds problem order prefix) (λ order. list_all (keeps order) (conditions_of problem prefix)) (λ order ranking. holds-conditions problem order prefix ranking f))

@@ -6,14 +6,14 @@ use Rattle.ot_theory.specs.Hierarchies.{IsLeastHierarchy}
 use Rattle.ot_theory.specs.Problems.{Problem}
 use Rattle.ot_theory.specs.Languages.{refuted, conditions_of}
 use Rattle.ot_theory.specs.Refutations.{no_ranking_keeps}
-use Rattle.ot_theory.proofs.Optimal.{AllFit, refuted-conditions}
+use Rattle.ot_theory.proofs.Optimal.{IsFitting, refuted-conditions}
 
 -- a choice beside the least hierarchy of its conditions
 abbrev pub HasLeast : Problem → List ℕ × List ℕ → Type 0
 HasLeast problem (choice, levels) = IsLeastHierarchy problem.constraints (conditions_of problem choice) levels
 
 -- Demotion of its conditions decides whether a choice is a language.
-pub refuted-demoted : (problem : Problem) (choice : List ℕ) (n : ℕ) (set : List (List Mark)) (levels : Option (List ℕ)) → AllFit problem.constraints problem.inputs choice
+pub refuted-demoted : (problem : Problem) (choice : List ℕ) (n : ℕ) (set : List (List Mark)) (levels : Option (List ℕ)) → IsFitting problem choice
     → n ≡ problem.constraints → set ≡ conditions_of problem choice
     → IfSome levels (λ least. (no_ranking_keeps n set ≡ false) × IsLeastHierarchy n set least) → IfNone levels (no_ranking_keeps n set ≡ true)
     → MatchOption levels (refuted problem choice ≡ true) (λ least. (refuted problem choice ≡ false) × HasLeast problem (choice, least))

@@ -1,12 +1,12 @@
 -- Choices of one class per input, and which of them are languages.
-use Rattle.std.specs.Prelude.{◌≡◌, ℕ, Bool, true, false, not, ◌&&◌, List, [], ◌∷◌, map, length, slice_index_or, ◌==◌, filter, flat_map, slice_get, Option, option_and_then, All}
-use Rattle.std.specs.List.{list_any, enumerate_from}
+use Rattle.std.specs.Prelude.{◌≡◌, ℕ, Bool, true, false, not, ◌&&◌, List, [], ◌∷◌, ◌++◌, map, length, slice_index_or, ◌==◌, filter, flat_map, slice_get, Option, option_and_then, All}
+use Rattle.std.specs.List.{list_all, list_any, enumerate_from}
 use Rattle.std.specs.Option.{option_map_or}
 use Rattle.ot_theory.specs.declared.Mark.{Mark}
-use Rattle.ot_theory.specs.Rankings.{numbers_below, rankings, optimal}
-use Rattle.ot_theory.specs.Conditions.{condition}
+use Rattle.ot_theory.specs.Rankings.{numbers_below, rankings, optimal, stands_before}
+use Rattle.ot_theory.specs.Conditions.{condition, over}
 use Rattle.ot_theory.specs.Hierarchies.{IsLeastHierarchy}
-use Rattle.ot_theory.specs.Problems.{Input, Problem}
+use Rattle.ot_theory.specs.Problems.{Input, Problem, givens}
 
 -- All choices of one class per input, in lexicographic order.
 unfoldable pub choices : List Input → List (List ℕ)
@@ -19,9 +19,13 @@ each_optimal order inputs [] = true
 each_optimal order [] (a ∷ prefix) = false
 each_optimal order (input ∷ inputs) (a ∷ prefix) = optimal order input.classes a && each_optimal order inputs prefix
 
--- A prefix of a choice holds under a ranking where each of its classes is optimal under it.
+-- the upper constraint of each given pair stands before the lower one
+abbrev pub keeps_givens : Problem → List ℕ → Bool
+keeps_givens problem order = list_all (λ pair. stands_before order pair.above pair.below) (givens problem)
+
+-- A prefix of a choice holds under a ranking that keeps the given pairs, where each of its classes is optimal under it.
 abbrev pub holds : Problem → List ℕ → List ℕ → Bool
-holds problem order prefix = each_optimal order problem.inputs prefix
+holds problem order prefix = keeps_givens problem order && each_optimal order problem.inputs prefix
 
 -- A prefix is refuted where it holds under no ranking.
 unfoldable pub refuted : Problem → List ℕ → Bool
@@ -31,11 +35,11 @@ refuted problem prefix = not (list_any (λ order. holds problem order prefix) (r
 unfoldable pub languages : Problem → List (List ℕ)
 languages problem = filter (λ choice. not (refuted problem choice)) (choices problem.inputs)
 
--- A term: a class of an input, by their numbers, against another class of it.
-pub record Term : Type 0 where
-  pub input : ℕ
-  pub winner : ℕ
-  pub loser : ℕ
+-- A term: a class of an input against another class of it, by the numbers of the input, of the one class and of the other; or a
+-- given pair, by its number.
+pub data Term : Type 0 where
+  Loser : ℕ → ℕ → ℕ → Term
+  Given : ℕ → Term
 
 -- the classes of an input, and none past the last input
 abbrev pub classes_at : Problem → ℕ → List (List ℕ)
@@ -55,15 +59,20 @@ profile_at problem i a = slice_index_or (classes_at problem i) a []
 
 -- a class against each other class of the input
 abbrev pub terms_of_class : List (List ℕ) → ℕ → ℕ → List Term
-terms_of_class classes i a = map (λ b. record { input = i; winner = a; loser = b }) (filter (λ b. not (b == a)) (numbers_below (length classes)))
+terms_of_class classes i a = map (Loser i a) (filter (λ b. not (b == a)) (numbers_below (length classes)))
 
--- the terms of a prefix, in order of input and then of loser
+-- the given pairs, in order
+abbrev pub terms_of_givens : Problem → List Term
+terms_of_givens problem = map Given (numbers_below (length (givens problem)))
+
+-- the terms of a prefix: the given pairs, and then its classes in order of input and then of loser
 abbrev pub terms_of : Problem → List ℕ → List Term
-terms_of problem prefix = flat_map (λ (i, a). terms_of_class (classes_at problem i) i a) (enumerate_from 0 prefix)
+terms_of problem prefix = terms_of_givens problem ++ flat_map (λ (i, a). terms_of_class (classes_at problem i) i a) (enumerate_from 0 prefix)
 
 -- the condition that a term stands for
 abbrev pub condition_of : Problem → Term → List Mark
-condition_of problem term = condition (profile_at problem term.input term.winner) (profile_at problem term.input term.loser)
+condition_of problem (Loser i a b) = condition (profile_at problem i a) (profile_at problem i b)
+condition_of problem (Given k) = option_map_or (λ pair. over problem.constraints pair.above pair.below) (slice_get (givens problem) k) []
 
 -- what a prefix asks of a ranking
 abbrev pub conditions_of : Problem → List ℕ → List (List Mark)

@@ -2,10 +2,10 @@
 use Rattle.std.specs.Prelude.{◌≡◌, ◌↔◌, ℕ, ◌<◌, Bool, true, not, ◌||◌, ◌==◌, List, [], ◌∷◌, map, length, slice_index_or, filter, All, Contains}
 use Rattle.std.specs.List.{list_all}
 use Rattle.ot_theory.specs.declared.Mark.{Mark}
-use Rattle.ot_theory.specs.Rankings.{numbers_below, IsRanking, rankings, optimal}
-use Rattle.ot_theory.specs.Conditions.{condition, keeps, fusion, is_contradictory, is_even, exchanged}
+use Rattle.ot_theory.specs.Rankings.{numbers_below, IsRanking, rankings, optimal, stands_before}
+use Rattle.ot_theory.specs.Conditions.{condition, over, keeps, fusion, is_contradictory, is_even, exchanged}
 use Rattle.ot_theory.specs.Hierarchies.{satisfies, satisfies_by_least}
-use Rattle.ot_theory.specs.Problems.{classes_of}
+use Rattle.ot_theory.specs.Problems.{classes_of, IsPair, Pair}
 use Rattle.ot_theory.specs.Refutations.{no_ranking_keeps}
 use Rattle.ot_theory.specs.Entailment.{entails}
 
@@ -42,3 +42,7 @@ IsOptimalByConditions n order profiles a =
 -- and L exchanged.
 abbrev pub IsEntailedByNegation : ℕ → List (List Mark) → List Mark → Type 0
 IsEntailedByNegation n set marks = length marks ≡ n → entails n set marks ≡ (list_all is_even marks || no_ranking_keeps n (map exchanged marks ∷ set))
+
+-- The upper constraint of a given pair stands before the lower one exactly where the ranking keeps the condition of the pair.
+abbrev pub IsKeptByCondition : ℕ → List ℕ → Pair → Type 0
+IsKeptByCondition n order pair = IsRanking n order → IsPair n pair → stands_before order pair.above pair.below ≡ keeps order (over n pair.above pair.below)

@@ -1,5 +1,6 @@
 -- Problems: a number of constraints, and inputs whose candidates fall into classes of equal profiles.
-use Rattle.std.specs.Prelude.{◌≡◌, ◌≢◌, ◌<◌, ℕ, Bool, not, ◌&&◌, List, [], ◌∷◌, map, length, slice_index, slice_index_or, nat_lt, nat_le, nat_eq, filter, find, position, take, drop, Option, option_and_then}
+use Rattle.std.specs.Prelude.{◌≡◌, ◌≢◌, ◌<◌, ℕ, Bool, not, ◌&&◌, List, [], ◌∷◌, map, length, slice_index, slice_index_or, nat_lt, nat_le, nat_eq, filter, find, position, take, drop, Option, Some, option_and_then}
+use Rattle.std.specs.Option.{option_map_or}
 use Rattle.std.specs.List.{list_all}
 use Rattle.std.specs.Cmp.Lexicographic.{pointwise}
 use Rattle.ot_theory.specs.Rankings.{numbers_below}
@@ -11,9 +12,30 @@ pub record Input : Type 0 where
   pub members : List (List ℕ)
   pub winner : Option ℕ
 
+-- A given pair of constraints: the upper one is to stand before the lower one.
+pub record Pair : Type 0 where
+  pub above : ℕ
+  pub below : ℕ
+
+-- Where no pairs were given there are none, and where some were given there may be none.
 pub record Problem : Type 0 where
   pub constraints : ℕ
   pub inputs : List Input
+  pub given : Option (List Pair)
+
+-- the given pairs, in order
+abbrev pub givens : Problem → List Pair
+givens problem = option_map_or (λ pairs. pairs) problem.given []
+
+-- the same problem with these given pairs
+abbrev pub with_given : Problem → List Pair → Problem
+with_given problem pairs = record { constraints = problem.constraints; inputs = problem.inputs; given = Some pairs }
+
+-- two different constraints of n
+pub record IsPair (n : ℕ) (pair : Pair) : Type 0 where
+  pub above : pair.above < n
+  pub below : pair.below < n
+  pub differ : pair.above ≢ pair.below
 
 abbrev pub same_profile : List ℕ → List ℕ → Bool
 same_profile = pointwise nat_eq

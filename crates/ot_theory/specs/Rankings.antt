@@ -1,7 +1,7 @@
 -- Rankings, and which of two profiles is better under one.
 -- A constraint is a number below n. A profile is a list of n violations.
 use Rattle.std.specs.Prelude.{◌≡◌, ℕ, zero, suc, ◌<◌, Bool, false, not, ◌&&◌, ◌||◌, List, [], ◌∷◌, map, length, slice_index, slice_index_or, nat_lt, ◌==◌, ◌≤◌, count_by, find, flat_map}
-use Rattle.std.specs.List.{list_all, range_with_len}
+use Rattle.std.specs.List.{list_all, position_or_len, range_with_len}
 use Rattle.std.specs.Option.{option_map_or}
 
 -- the numbers below n, ascending
@@ -26,6 +26,10 @@ put_somewhere x (y ∷ ys) = (x ∷ y ∷ ys) ∷ map (λ zs. y ∷ zs) (put_som
 unfoldable pub rankings : ℕ → List (List ℕ)
 rankings zero = [] ∷ []
 rankings (suc n) = flat_map (put_somewhere n) (rankings n)
+
+-- The one constraint stands before the other one in a ranking.
+abbrev pub stands_before : List ℕ → ℕ → ℕ → Bool
+stands_before order c d = nat_lt (position_or_len (λ x. x == c) order) (position_or_len (λ x. x == d) order)
 
 -- One profile is better than another where it has fewer violations at the first constraint on which they differ.
 abbrev pub better : List ℕ → List ℕ → List ℕ → Bool

@@ -1,34 +1,34 @@
 -- Contradictions, cuts, and the certificates that show that a prefix is refuted.
-use Rattle.std.specs.Prelude.{◌≡◌, ℕ, Bool, false, not, ◌&&◌, ◌||◌, List, [], ◌∷◌, ◌++◌, map, length, take, slice_get, ◌==◌, nat_lt, filter, find, flat_map, fold, Option, option_map, if◌then◌else◌}
+use Rattle.std.specs.Prelude.{◌≡◌, ℕ, Bool, true, false, not, ◌&&◌, ◌||◌, List, [], ◌∷◌, ◌++◌, map, length, take, slice_get, ◌==◌, nat_lt, filter, flat_map, fold, Option, Some, None, if◌then◌else◌}
 use Rattle.std.specs.List.{list_any, list_all, position_or_len}
 use Rattle.std.specs.Option.{option_map_or}
 use Rattle.ot_theory.specs.declared.Mark.{Mark}
 use Rattle.ot_theory.specs.Rankings.{numbers_below, rankings}
 use Rattle.ot_theory.specs.Conditions.{keeps, fusion, is_contradictory}
-use Rattle.ot_theory.specs.Problems.{Input, Problem}
-use Rattle.ot_theory.specs.Languages.{Term, classes_at, winner_at, terms_of_class, terms_of, condition_of, refuted}
+use Rattle.ot_theory.specs.Problems.{Input, Problem, givens}
+use Rattle.ot_theory.specs.Languages.{Term, Loser, Given, classes_at, winner_at, terms_of_class, terms_of_givens, terms_of, condition_of, refuted}
 
 -- no ranking of n constraints keeps all these conditions
 unfoldable pub no_ranking_keeps : ℕ → List (List Mark) → Bool
 no_ranking_keeps n set = not (list_any (λ order. list_all (keeps order) set) (rankings n))
 
--- a class of an input against another one
+-- a class of an input against another one, or a given pair
 abbrev pub is_term : Problem → Term → Bool
-is_term problem term =
-    nat_lt term.input (length problem.inputs)
-    && nat_lt term.winner (length (classes_at problem term.input))
-    && nat_lt term.loser (length (classes_at problem term.input))
-    && not (term.loser == term.winner)
+is_term problem (Loser i a b) =
+    nat_lt i (length problem.inputs) && nat_lt a (length (classes_at problem i)) && nat_lt b (length (classes_at problem i)) && not (b == a)
+is_term problem (Given k) = nat_lt k (length (givens problem))
 
 -- the two terms are of different inputs, or have the same winner
 abbrev pub agree : Term → Term → Bool
-agree s t = not (s.input == t.input) || (s.winner == t.winner)
+agree (Loser i a b) (Loser j c d) = not (i == j) || (a == c)
+agree (Loser i a b) (Given k) = true
+agree (Given k) term = true
 
 -- no two of the terms give an input two winners
 abbrev pub one_winner_each : List Term → Bool
 one_winner_each terms = list_all (λ s. list_all (agree s) terms) terms
 
--- A contradiction of a problem: some of its terms, with one winner for each input, whose conditions fuse to an L and no W.
+-- A contradiction of a problem: some of its terms, with at most one winner for each input, whose conditions fuse to an L and no W.
 unfoldable pub is_contradiction : Problem → List Term → Bool
 is_contradiction problem terms =
     not (length terms == 0)
@@ -36,27 +36,38 @@ is_contradiction problem terms =
     && one_winner_each terms
     && is_contradictory (fusion problem.constraints (map (condition_of problem) terms))
 
--- It refutes a prefix that makes each of its winner choices.
+-- the choice that a term asks for: an input, and its winner
+abbrev pub choice_of : Term → Option (ℕ × ℕ)
+choice_of (Loser i a b) = Some (i, a)
+choice_of (Given k) = None
+
+-- A prefix makes the winner choice of a term where it has the winner at its input. A given pair asks nothing of it.
+abbrev pub is_made : List ℕ → Term → Bool
+is_made prefix term = option_map_or (λ choice. option_map_or (λ c. c == choice.1) (slice_get prefix choice.0) false) (choice_of term) true
+
+-- A contradiction refutes a prefix that makes each of its winner choices.
 abbrev pub refutes : List Term → List ℕ → Bool
-refutes terms prefix = list_all (λ term. option_map_or (λ a. a == term.winner) (slice_get prefix term.input) false) terms
+refutes terms prefix = list_all (is_made prefix) terms
 
 -- the first winner that the terms give an input
 abbrev pub winner_in : List Term → ℕ → Option ℕ
-winner_in terms i = option_map (λ term. term.winner) (find (λ term. term.input == i) terms)
+winner_in [] i = None
+winner_in (Loser j a b ∷ terms) i = if j == i then Some a else winner_in terms i
+winner_in (Given k ∷ terms) i = winner_in terms i
 
 -- the winner of an input, if it has one, against each other class of it
 abbrev pub terms_of_winner : Problem → ℕ → List Term
 terms_of_winner problem i = option_map_or (terms_of_class (classes_at problem i) i) (winner_at problem i) []
 
--- the same of all inputs, in order of input and then of loser
+-- the given pairs, and then the same of all inputs, in order of input and then of loser
 abbrev pub terms_of_winners : Problem → List Term
-terms_of_winners problem = flat_map (terms_of_winner problem) (numbers_below (length problem.inputs))
+terms_of_winners problem = terms_of_givens problem ++ flat_map (terms_of_winner problem) (numbers_below (length problem.inputs))
 
--- what the winners ask of a ranking
+-- what the given pairs and the winners ask of a ranking
 abbrev pub conditions_of_winners : Problem → List (List Mark)
 conditions_of_winners problem = map (condition_of problem) (terms_of_winners problem)
 
--- No ranking keeps the conditions of the winners.
+-- No ranking keeps the conditions of the given pairs and of the winners.
 abbrev pub is_contradicted : Problem → Bool
 is_contradicted problem = no_ranking_keeps problem.constraints (conditions_of_winners problem)
 

@@ -1,8 +1,9 @@
 //! Laws of the definitions: each function's contract is a law, and its body is empty.
 
 ghost use Rattle.std.specs.Prelude.{ℕ, List};
+ghost use Rattle.ot_theory.specs.Problems.{Pair};
 ghost use Rattle.ot_theory.specs.declared.Mark.{Mark};
-ghost use Rattle.ot_theory.specs.Laws.{HoldsRankings, IsSatisfiedByLeast, IsEntailedByNegation, IsInconsistentByFusion, IsOptimalByConditions};
+ghost use Rattle.ot_theory.specs.Laws.{HoldsRankings, IsSatisfiedByLeast, IsEntailedByNegation, IsInconsistentByFusion, IsKeptByCondition, IsOptimalByConditions};
 
 /// The list of the rankings of n constraints holds each of them, and nothing else.
 pub fn rankings_are_all()
@@ -28,4 +29,9 @@ pub fn optimal_by_conditions()
 /// exchanged (Prince 2002).
 pub fn entailed_by_negation()
     ensures { (n : ℕ) (set : List (List Mark)) (marks : List Mark) → IsEntailedByNegation n set marks }
+{}
+
+/// A ranking puts the upper constraint of a given pair before the lower one exactly where it keeps the condition of the pair.
+pub fn given_by_condition()
+    ensures { (n : ℕ) (order : List ℕ) (pair : Pair) → IsKeptByCondition n order pair }
 {}
