@@ -12,3 +12,6 @@ pub const VIOLATION_LIMIT: u32 = 1_000_000;
 
 /// The greatest number of contradictions that a search may keep.
 pub const PLACE_LIMIT: usize = 4_096;
+
+/// The greatest number of given pairs.
+pub const GIVEN_LIMIT: usize = 4_096;
