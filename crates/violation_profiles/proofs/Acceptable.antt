@@ -2,10 +2,10 @@
 use Rattle.std.proofs.Common.{◌≡◌, ℕ, ◌<◌, List, [], ◌∷◌, Bool, Option, Some, None, IfSome, slice_index_or, refl, arith, length, map}
 use Rattle.std.specs.Prelude.{find, position, option_and_then}
 use Rattle.std.proofs.lemmas.List.{length-map}
-use Rattle.std.proofs.lemmas.List.Elements.{All-map, All-weaker}
+use Rattle.std.proofs.lemmas.List.Elements.{All-map, All-nil, All-weaker}
 use Rattle.std.proofs.lemmas.List.Quantifiers.{position-Some}
 use Rattle.ot_theory.specs.Rankings.{numbers_below}
-use Rattle.ot_theory.specs.Problems.{classes_of, members_of, is_winning, same_profile, winner_of}
+use Rattle.ot_theory.specs.Problems.{IsPair, classes_of, members_of, is_winning, same_profile, winner_of}
 use Rattle.ot_theory.proofs.Classes.{AreClasses-classes_of}
 use Rattle.ot_theory.proofs.Candidates.{length-classes_of, some-classes_of}
 use Rattle.ot_base.specs.declared.tableau.Tableau.{Tableau}
@@ -46,4 +46,6 @@ IsWellFormed-problem_of tableau h = record {
   each =
       All-map (IsWellFormedInput (length tableau.names)) input_of_rows tableau.inputs
       (All-weaker (AreRows (length tableau.names)) (λ rows. IsWellFormedInput (length tableau.names) (input_of_rows rows)) (IsWellFormed-rows (length tableau.names)) tableau.inputs h.rows);
+  few_pairs = omega arith;
+  pairs = All-nil (IsPair (length tableau.names));
 }

@@ -5,7 +5,7 @@ use Rattle.std.proofs.lemmas.List.Elements.{All-head, All-tail, All-weaker}
 use Rattle.ot_theory.specs.Conditions.{condition}
 use Rattle.ot_theory.specs.Languages.{classes_at, profile_at}
 use Rattle.ot_theory.specs.Problems.{AreClasses, Input, Problem}
-use Rattle.ot_theory.proofs.Optimal.{AllFit, classes_in}
+use Rattle.ot_theory.proofs.Optimal.{IsFitting, classes_in}
 use Rattle.ot_theory.proofs.Classes.{AllClasses, AllFit-each}
 use Rattle.violation_profiles.proofs.Masked.{length-condition}
 use Rattle.violation_profiles.specs.WellFormed.{IsWellFormed, IsWellFormedInput, IsPrefix}
@@ -28,5 +28,5 @@ length-condition_at problem i a b h within winner loser =
     let width = width-at problem i a h within winner in
     length-condition (profile_at problem i a) (profile_at problem i b) (width-at problem i b h within loser ∙ sym width) ∙ width
 
-pub AllFit-prefix : (problem : Problem) (prefix : List ℕ) → IsWellFormed problem → IsPrefix problem prefix → AllFit problem.constraints problem.inputs prefix
-AllFit-prefix problem prefix h p = AllFit-each problem.constraints problem.inputs prefix (AllClasses-from_well_formed problem h) p.short p.within
+pub AllFit-prefix : (problem : Problem) (prefix : List ℕ) → IsWellFormed problem → IsPrefix problem prefix → IsFitting problem prefix
+AllFit-prefix problem prefix h p = record { classes = AllFit-each problem.constraints problem.inputs prefix (AllClasses-from_well_formed problem h) p.short p.within; pairs = h.pairs }

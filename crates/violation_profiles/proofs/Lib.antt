@@ -5,3 +5,4 @@ pub mod Found
 pub mod Joined
 pub mod Masked
 pub mod Keys
+pub mod Pairs

@@ -9,6 +9,7 @@
 #![tactic(auto)]
 
 mod classes;
+mod given;
 mod input_classes;
 mod laws;
 mod masks;

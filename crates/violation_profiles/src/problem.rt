@@ -1,39 +1,45 @@
 //! The problem that a tableau poses: the classes of each input, and the conditions between them.
 
-ghost use Rattle.std.specs.Prelude.{◌≡◌, ◌≢◌, ◌+◌, ◌*◌, ◌^◌, ◌<◌, ◌≤◌, length, nat_lt, IfOk, IfSome, option_map};
+ghost use Rattle.std.specs.Prelude.{◌≡◌, ◌≢◌, ◌+◌, ◌*◌, ◌^◌, ◌<◌, ◌≤◌, All, length, nat_lt, is_some, IfOk, IfSome, option_map};
 ghost use Rattle.erc_vectors.specs.declared.condition.TheConstants.{LIMIT};
-ghost use Rattle.ot_base.specs.declared.limits.TheConstants.{INPUT_LIMIT, CANDIDATE_LIMIT};
+ghost use Rattle.ot_base.specs.declared.limits.TheConstants.{INPUT_LIMIT, CANDIDATE_LIMIT, GIVEN_LIMIT};
 ghost use Rattle.ot_base.specs.Acceptable.{IsAcceptable};
 ghost use Rattle.ot_theory.specs.Conditions.{condition, is_win, is_loss};
 ghost use Rattle.erc_vectors.specs.Masks.{IsMask};
-ghost use Rattle.ot_theory.specs.Languages.{classes_at, members_at, profile_at, winner_at};
-ghost use Rattle.ot_base.specs.Tableaus.{problem_of};
+ghost use Rattle.ot_theory.specs.Problems.{IsPair, givens, with_given};
+ghost use Rattle.ot_theory.specs.Languages.{Given, condition_of, classes_at, members_at, profile_at, winner_at};
+ghost use Rattle.ot_base.specs.Tableaus.{pair_of, pairs_in, problem_of};
 ghost use Rattle.violation_profiles.specs.WellFormed.{IsWellFormed};
 
+use crate::given::over;
 use crate::input_classes::InputClasses;
 use erc_vectors::{Condition, List, Mask, NoMemory};
-use ot_base::{ClassId, InId, Tableau};
+use ot_base::{ClassId, InId, Pair, Tableau};
 use std::alloc::Global;
 use std::marker::Model;
 
 /// A problem of optimality: a number of constraints, and inputs whose candidates fall into classes of equal profiles, which
 /// are numbered in order of their first candidate. A contract sees it as the problem of the theory. It has at most 64
-/// constraints and 1,000 inputs, and each input has 1 to 200 classes.
+/// constraints and 1,000 inputs, and each input has 1 to 200 classes. Pairs of constraints may be given, at most 4,096, which a
+/// ranking is to keep.
 #[derive(Debug, Drop)]
 pub struct Problem {
     constraints: usize,
     inputs: List<InputClasses>,
+    given: Option<List<Pair>>,
 }
 
 impl Model for Problem {
+    ghost use Rattle.std.specs.Prelude.{option_map};
+    ghost use Rattle.ot_base.specs.Tableaus.{pairs_in};
     ghost use Rattle.ot_theory.specs.Problems as theory;
     ghost use Rattle.violation_profiles.specs.WellFormed.{IsWellFormed};
 
     ghost Value = { theory.Problem };
 
-    ghost view = { λ problem. record { constraints = problem.constraints; inputs = problem.inputs } };
+    ghost view = { λ problem. record { constraints = problem.constraints; inputs = problem.inputs; given = option_map pairs_in problem.given } };
 
-    ghost invariant = { λ problem. IsWellFormed (record { constraints = problem.constraints; inputs = problem.inputs }) };
+    ghost invariant = { λ problem. IsWellFormed (record { constraints = problem.constraints; inputs = problem.inputs; given = option_map pairs_in problem.given }) };
 }
 
 impl Problem {
@@ -49,7 +55,50 @@ impl Problem {
         Ok(Problem {
             constraints: tableau.names.len(),
             inputs,
+            given: None,
         })
+    }
+
+    /// The same problem with these given pairs, each of two different constraints. There may be none.
+    pub fn with_given(self, pairs: List<Pair>) -> Problem
+        requires few { length pairs ≤ GIVEN_LIMIT }
+        requires pairs { All (IsPair self.constraints) (pairs_in pairs) }
+        ensures { result ≡ with_given self (pairs_in pairs) }
+    {
+        Problem {
+            constraints: self.constraints,
+            inputs: self.inputs,
+            given: Some(pairs),
+        }
+    }
+
+    /// The given pairs, in order: at most 4,096, and none where none were given.
+    pub fn givens(&self) -> &[Pair]
+        ensures value { pairs_in result.now ≡ givens self.now }
+        ensures small { length result.now ≤ GIVEN_LIMIT }
+    {
+        match &self.given {
+            Some(pairs) => pairs.as_slice(),
+            None => &[],
+        }
+    }
+
+    /// Whether pairs were given, be it none.
+    pub fn has_givens(&self) -> bool
+        ensures { result ≡ is_some self.now.given }
+    {
+        self.given.is_some()
+    }
+
+    /// The condition of a given pair, by its number from 0 on: W at the upper constraint, L at the lower one, and e elsewhere. It
+    /// takes no memory.
+    pub fn given_condition(&self, k: u32) -> Condition
+        requires { k < length (givens self.now) }
+        ensures marks { result ≡ condition_of self.now (Given k) }
+        ensures width { length result ≡ self.now.constraints }
+    {
+        let pair = self.givens()[k as usize];
+        over(self.constraints(), pair)
     }
 
     /// The number of constraints, at most 64.
