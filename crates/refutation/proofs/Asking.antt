@@ -1,6 +1,6 @@
 -- What the classes of a prefix ask: whether a ranking keeps it decides whether the prefix is refuted, and the least hierarchy and the
 -- certificate are those of the prefix.
-use Rattle.std.proofs.Common.{◌≡◌, ℕ, ◌+◌, ◌<◌, ◌≤◌, List, ◌++◌, true, arith, sym, ◌∙◌, ap, length, take, take_all, get_or, map}
+use Rattle.std.proofs.Common.{◌≡◌, ℕ, ◌+◌, ◌<◌, ◌≤◌, List, [], ◌++◌, true, arith, sym, ◌∙◌, ap, length, take, take_all, get_or, map}
 use Rattle.std.proofs.lemmas.List.{length-map, length-take, map_more}
 use Rattle.std.proofs.lemmas.List.Folds.{list_all-map}
 use Rattle.ot_base.specs.declared.tableau.ClassId.{ClassId}
@@ -8,7 +8,7 @@ use Rattle.ot_theory.specs.declared.Mark.{Mark}
 use Rattle.ot_theory.specs.Hierarchies.{IsLeastHierarchy}
 use Rattle.ot_theory.specs.Problems.{Problem}
 use Rattle.ot_theory.specs.Languages as theory
-use Rattle.ot_theory.specs.Languages.{classes_at, condition_of, conditions_of, refuted, terms_of, terms_of_class}
+use Rattle.ot_theory.specs.Languages.{classes_at, condition_of, conditions_of, refuted, terms_of, terms_of_class, terms_of_givens}
 use Rattle.ot_theory.specs.Refutations.{certificate_of, is_term, no_ranking_keeps, one_winner_each}
 use Rattle.ot_theory.proofs.Optimal.{refuted-conditions}
 use Rattle.ot_theory.proofs.Redundant.{IsReduced-certificate, IsReduced-hopeless, IsReduced-least}
@@ -19,7 +19,11 @@ use Rattle.refutation.specs.Asked.{AreAsked}
 use Rattle.refutation.specs.Prefixes.{class_numbers, is_made}
 use Rattle.refutation.specs.Terms.{are_terms, term_of, terms_in}
 use Rattle.refutation.specs.declared.term.Term.{Term}
-use Rattle.refutation.proofs.TermsOfPrefixes.{made-one, terms_of-genuine, terms_of-made, terms_of-push}
+use Rattle.refutation.proofs.TermsOfPrefixes.{made-one, terms_of-genuine, terms_of-made, terms_of-none, terms_of-push}
+
+-- what the given pairs ask is what the prefix of no class asks
+pub asked-givens : (problem : Problem) (terms : List Term) (conditions : List (List Mark)) → AreAsked problem (terms_of_givens problem) terms conditions → AreAsked problem (terms_of problem []) terms conditions
+asked-givens problem terms conditions h = rw (terms_of-none problem) h
 
 -- what the first classes ask, with what one class more asks
 pub asked-more : (problem : Problem) (classes : List ClassId) (i : ℕ) (d : ClassId) (terms : List Term) (conditions : List (List Mark)) → i < length classes

@@ -12,12 +12,14 @@ use Rattle.ot_theory.specs.Problems.{Problem}
 use Rattle.ot_theory.specs.Languages as theory
 use Rattle.ot_theory.specs.Languages.{condition_of}
 use Rattle.ot_theory.specs.Reductions.{IsStronger, IsImplied}
-use Rattle.ot_theory.proofs.Terms.{term}
+use Rattle.ot_theory.specs.Rankings.{numbers_below}
+use Rattle.ot_theory.proofs.Terms.{numbers_below-more, term}
 use Rattle.ot_theory.proofs.WinnerTerms.{terms_below, terms_below-other, terms_below-same}
 use Rattle.ot_theory.proofs.Redundant.{IsImplied-lossless, IsReduced-append, IsReduced-push, IsReduced-same, IsReduced-trans, IsReduced-without}
 use Rattle.erc_vectors.specs.Masks.{IsMask}
 use Rattle.erc_vectors.proofs.Bits.{bit_false}
 use Rattle.refutation.specs.declared.term.Term.{Term}
+use Rattle.refutation.specs.declared.term.Term.TheVariants.{Loser}
 use Rattle.refutation.specs.Terms.{term_of, terms_in}
 use Rattle.refutation.specs.Asked.{AreAsked, Begins}
 
@@ -137,4 +139,12 @@ asked-all problem whole others these terms those conditions k other past h =
     asked-whole problem whole others these terms those conditions other (rw (take_all k these (omega (arith, long))) at h)
 
 abbrev pub no_term : Term
-no_term = record { input = record { 0 = 0 }; winner = record { 0 = 0 }; loser = record { 0 = 0 } }
+no_term = Loser (record { 0 = 0 }) (record { 0 = 0 }) (record { 0 = 0 })
+
+-- the given pairs, with one more
+pub givens-more : (k : ℕ) → map theory.Given (numbers_below (k + 1)) ≡ map theory.Given (numbers_below k) ++ theory.Given k ∷ []
+givens-more k = ap (map theory.Given) (numbers_below-more k) ∙ map-append theory.Given (numbers_below k) (k ∷ [])
+
+pub asked-given : (problem : Problem) (whole : List theory.Term) (k : ℕ) (terms : List Term) (conditions : List (List Mark)) → AreAsked problem ((whole ++ map theory.Given (numbers_below k)) ++ theory.Given k ∷ []) terms conditions
+    → AreAsked problem (whole ++ map theory.Given (numbers_below (k + 1))) terms conditions
+asked-given problem whole k terms conditions h = rw (givens-more k, ← append_assoc whole (map theory.Given (numbers_below k)) (theory.Given k ∷ [])) h

@@ -1,6 +1,6 @@
 -- The winners so far, with one term more.
 use Rattle.std.proofs.Common.{◌≡◌, ◌≢◌, ℕ, ◌<◌, ◌≤◌, List, [], ◌∷◌, ◌++◌, Bool, true, false, ◌==◌, arith, refl, sym, ◌∙◌, ap, inl, inr, length, Option, Some, None, option_map, eq-eqb, ◌+◌, ◌&&◌, map, take, drop, get_or}
-use Rattle.std.specs.Prelude.{All}
+use Rattle.std.specs.Prelude.{All, not, nat_lt}
 use Rattle.std.specs.Option.{option_map_or}
 use Rattle.std.proofs.lemmas.Bool.{and_from, and_parts, ltb-true, false_from_ne_true}
 use Rattle.std.proofs.lemmas.Bool.Decides.{eqb_tells}
@@ -9,6 +9,7 @@ use Rattle.std.proofs.lemmas.List.Sums.{AllPass-from_list_all}
 use Rattle.std.proofs.lemmas.List.{map-append, map_more, take-append-drop}
 use Rattle.ot_base.specs.declared.tableau.ClassId.{ClassId}
 use Rattle.ot_theory.specs.Languages as theory
+use Rattle.ot_theory.specs.Languages.{Loser, Given, classes_at}
 use Rattle.ot_theory.specs.Problems.{Problem}
 use Rattle.ot_theory.specs.Refutations.{is_contradiction, is_term, one_winner_each, winner_in}
 use Rattle.ot_theory.proofs.WinnerTerms.{has_winner_of, one_winner_each-front, one_winner_each-push, winner_in-push}
@@ -19,70 +20,82 @@ use Rattle.ot_theory.specs.Languages.{condition_of}
 use Rattle.ot_theory.proofs.Fusing.{fusion-push}
 use Rattle.refutation.specs.declared.term.Term.{Term}
 use Rattle.refutation.specs.Terms.{are_terms, term_of, terms_in}
-use Rattle.refutation.specs.Winners.{class_at, AreWinners}
+use Rattle.refutation.specs.Winners.{class_at, AreWinners, IsBelow}
 
 map_or-map : (w : ℕ) (o : Option ClassId) (d : Bool) → option_map_or (λ a. a == w) (option_map (λ a. a.0) o) d ≡ option_map_or (λ a. a.0 == w) o d
 map_or-map w None d = refl
 map_or-map w (Some a) d = refl
 
--- whether a term has the winner of its input so far
-pub agrees-so-far : (terms : List theory.Term) (t : Term) (winners : List (Option ClassId)) → AreWinners terms winners → t.input.0 < length winners → option_map_or (λ a. a.0 == t.winner.0) (class_at winners t.input.0) true ≡ has_winner_of terms (term_of t)
-agrees-so-far terms t winners h below =
-    sym (map_or-map t.winner.0 (class_at winners t.input.0) true) ∙ ap (λ (o : Option ℕ). option_map_or (λ a. a == t.winner.0) o true) (h t.input.0 below)
+-- whether a class is the winner of its input so far
+agrees-so-far : (terms : List theory.Term) (i a b : ℕ) (winners : List (Option ClassId)) → AreWinners terms winners → i < length winners → option_map_or (λ w. w.0 == a) (class_at winners i) true ≡ has_winner_of terms (Loser i a b)
+agrees-so-far terms i a b winners h below =
+    sym (map_or-map a (class_at winners i) true) ∙ ap (λ (o : Option ℕ). option_map_or (λ w. w == a) o true) (h i below)
+
+-- With a class that is the winner of its input so far each input has one winner, and with another one the input has two.
+pub agrees-one : (terms : List theory.Term) (i : ℕ) (a : ClassId) (b : ℕ) (winners : List (Option ClassId)) (answer : Bool) → AreWinners terms winners → one_winner_each terms ≡ true → i < length winners
+    → answer ≡ option_map_or (λ w. w.0 == a.0) (class_at winners i) true → answer ≡ one_winner_each (terms ++ Loser i a.0 b ∷ [])
+agrees-one terms i a b winners answer h one below e =
+    sym (one_winner_each-push terms (Loser i a.0 b) ∙ rw one (sym (agrees-so-far terms i a.0 b winners h below) ∙ sym e))
+
+pub given-one : (terms : List theory.Term) (k : ℕ) → one_winner_each terms ≡ true → true ≡ one_winner_each (terms ++ Given k ∷ [])
+given-one terms k one = sym (one_winner_each-push terms (Given k) ∙ rw one refl)
 
 -- the winners with one term more
-pub AreWinners-push : (terms : List theory.Term) (t : Term) (old new : List (Option ClassId)) → AreWinners terms old → length new ≡ length old
-    → class_at new t.input.0 ≡ Some (option_map_or (λ a. a) (class_at old t.input.0) t.winner) → ((i : ℕ) → i ≢ t.input.0 → class_at new i ≡ class_at old i) → AreWinners (terms ++ term_of t ∷ []) new
-AreWinners-push terms t old new h same chosen others i below = elim (eqb_tells t.input.0 i) [
-  | inl here ↦ rw (← here.1, chosen, winner_in-push terms (term_of t) t.input.0, ← h t.input.0 (omega (arith, here.1)), eq-eqb t.input.0 t.input.0 refl) (by (class_at old t.input.0))
-  | inr there ↦ rw (others i (omega (arith, there.1)), winner_in-push terms (term_of t) i, there.0, h i (omega arith)) (kept (winner_in terms i))
+pub AreWinners-push : (terms : List theory.Term) (at : ℕ) (a : ClassId) (b : ℕ) (old new : List (Option ClassId)) → AreWinners terms old → length new ≡ length old
+    → class_at new at ≡ Some (option_map_or (λ w. w) (class_at old at) a) → ((i : ℕ) → i ≢ at → class_at new i ≡ class_at old i) → AreWinners (terms ++ Loser at a.0 b ∷ []) new
+AreWinners-push terms at a b old new h same chosen others i below = elim (eqb_tells at i) [
+  | inl here ↦ rw (← here.1, chosen, winner_in-push terms (Loser at a.0 b) at, ← h at (omega (arith, here.1)), eq-eqb at at refl) (by (class_at old at))
+  | inr there ↦ rw (others i (omega (arith, there.1)), winner_in-push terms (Loser at a.0 b) i, there.0, h i (omega arith)) (kept (winner_in terms i))
 ]
   where
-    by : (o : Option ClassId) → option_map (λ a. a.0) (Some (option_map_or (λ a. a) o t.winner)) ≡ option_map_or (λ w. Some w) (option_map (λ a. a.0) o) (Some t.winner.0)
+    by : (o : Option ClassId) → option_map (λ w. w.0) (Some (option_map_or (λ w. w) o a)) ≡ option_map_or (λ w. Some w) (option_map (λ w. w.0) o) (Some a.0)
     by None = refl
-    by (Some a) = refl
+    by (Some w) = refl
 
     kept : (o : Option ℕ) → o ≡ option_map_or (λ w. Some w) o None
     kept None = refl
     kept (Some w) = refl
 
+pub AreWinners-given : (terms : List theory.Term) (k : ℕ) (winners : List (Option ClassId)) → AreWinners terms winners → AreWinners (terms ++ Given k ∷ []) winners
+AreWinners-given terms k winners h i below = h i below ∙ sym (winner_in-push terms (Given k) i ∙ kept (winner_in terms i))
+  where
+    kept : (o : Option ℕ) → option_map_or (λ w. Some w) o None ≡ o
+    kept None = refl
+    kept (Some w) = refl
+
 -- the terms of a front, with one more
-pub one-more : (terms : List Term) (k : ℕ) (d : Term) → k < length terms → one_winner_each (terms_in (take (k + 1) terms)) ≡ (one_winner_each (terms_in (take k terms)) && has_winner_of (terms_in (take k terms)) (term_of (get_or terms k d)))
-one-more terms k d below = rw (map_more term_of terms k d below) (one_winner_each-push (terms_in (take k terms)) (term_of (get_or terms k d)))
+front-more : (terms : List Term) (k : ℕ) (d : Term) → k < length terms → terms_in (take (k + 1) terms) ≡ terms_in (take k terms) ++ term_of (get_or terms k d) ∷ []
+front-more terms k d below = map_more term_of terms k d below
 
--- a term of a problem is of one of its inputs
-pub input-within : (problem : Problem) (terms : List Term) (k : ℕ) (d : Term) → are_terms problem terms ≡ true → k < length terms → (get_or terms k d).input.0 < length problem.inputs
-input-within problem terms k d h below =
-    let it = AllPass-from_list_all (λ term. is_term problem (term_of term)) terms h k d below in
-    ltb-true _ _ (and_parts _ _ (and_parts _ _ (and_parts _ _ it).0).0).0
-
--- whether the k-th term has the winner of its input so far
-abbrev pub agrees_at : List Term → ℕ → Term → List (Option ClassId) → Bool
-agrees_at terms k d winners = option_map_or (λ a. a.0 == (get_or terms k d).winner.0) (class_at winners (get_or terms k d).input.0) true
+-- a term of a problem is of one of its inputs, or a given pair
+pub input-within : (problem : Problem) (terms : List Term) (k n : ℕ) (d : Term) → are_terms problem terms ≡ true → length problem.inputs ≤ n → k < length terms → IsBelow n (term_of (get_or terms k d))
+input-within problem terms k n d h places below = by (term_of (get_or terms k d)) (AllPass-from_list_all (λ term. is_term problem (term_of term)) terms h k d below)
+  where
+    by : (t : theory.Term) → is_term problem t ≡ true → IsBelow n t
+    by (Loser i a b) it =
+        let first : Bool = nat_lt i (length problem.inputs) in
+        let second : Bool = nat_lt a (length (classes_at problem i)) in
+        let third : Bool = nat_lt b (length (classes_at problem i)) in
+        let p = and_parts (first && second && third) (not (b == a)) it in
+        let q = and_parts (first && second) third p.0 in
+        omega (arith, places, ltb-true i (length problem.inputs) (and_parts first second q.0).0)
+    by (Given j) it = tt
 
 -- A term that does not have the winner of its input so far gives it two.
-pub two-winners : (problem : Problem) (terms : List Term) (k : ℕ) (d : Term) (winners : List (Option ClassId)) (b : Bool) → are_terms problem terms ≡ true → length problem.inputs ≤ length winners → k < length terms
-    → AreWinners (terms_in (take k terms)) winners → b ≡ agrees_at terms k d winners → b ≡ false → false ≡ one_winner_each (terms_in terms)
-two-winners problem terms k d winners b genuine places below h e other = sym (false_from_ne_true _ (λ all.
+pub two-winners : (terms : List Term) (k : ℕ) (d : Term) (b : Bool) → k < length terms → b ≡ one_winner_each (terms_in (take k terms) ++ term_of (get_or terms k d) ∷ []) → b ≡ false → false ≡ one_winner_each (terms_in terms)
+two-winners terms k d b below e other = sym (false_from_ne_true _ (λ all.
     let whole : terms_in terms ≡ terms_in (take (k + 1) terms) ++ terms_in (drop (k + 1) terms) = ap terms_in (sym (take-append-drop (k + 1) terms)) ∙ map-append term_of (take (k + 1) terms) (drop (k + 1) terms) in
     let front = one_winner_each-front (terms_in (take (k + 1) terms)) (terms_in (drop (k + 1) terms)) (rw whole at all) in
-    let last = (and_parts (one_winner_each (terms_in (take k terms))) _ (sym (one-more terms k d below) ∙ front)).1 in
-    let within = input-within problem terms k d genuine below in
-    let no : true ≡ false = sym last ∙ sym (agrees-so-far (terms_in (take k terms)) (get_or terms k d) winners h (omega arith)) ∙ sym e ∙ other in
+    let no : true ≡ false = sym front ∙ ap one_winner_each (front-more terms k d below) ∙ sym e ∙ other in
     cc))
 
 -- One that has it leaves each input one winner.
-pub one-winner : (problem : Problem) (terms : List Term) (k : ℕ) (d : Term) (winners : List (Option ClassId)) (b : Bool) → are_terms problem terms ≡ true → length problem.inputs ≤ length winners → k < length terms
-    → AreWinners (terms_in (take k terms)) winners → one_winner_each (terms_in (take k terms)) ≡ true → b ≡ agrees_at terms k d winners → b ≡ true → one_winner_each (terms_in (take (k + 1) terms)) ≡ true
-one-winner problem terms k d winners b genuine places below h one e same =
-    let within = input-within problem terms k d genuine below in
-    one-more terms k d below ∙ and_from _ _ one (sym (agrees-so-far (terms_in (take k terms)) (get_or terms k d) winners h (omega arith)) ∙ sym e ∙ same)
+pub one-winner : (terms : List Term) (k : ℕ) (d : Term) (b : Bool) → k < length terms → b ≡ one_winner_each (terms_in (take k terms) ++ term_of (get_or terms k d) ∷ []) → b ≡ true → one_winner_each (terms_in (take (k + 1) terms)) ≡ true
+one-winner terms k d b below e same = ap one_winner_each (front-more terms k d below) ∙ sym e ∙ same
 
 -- the winners with the k-th term
-pub more-winners : (terms : List Term) (k : ℕ) (d : Term) (old new : List (Option ClassId)) → k < length terms → AreWinners (terms_in (take k terms)) old → length new ≡ length old
-    → class_at new (get_or terms k d).input.0 ≡ Some (option_map_or (λ a. a) (class_at old (get_or terms k d).input.0) (get_or terms k d).winner) → ((i : ℕ) → i ≢ (get_or terms k d).input.0 → class_at new i ≡ class_at old i)
-    → AreWinners (terms_in (take (k + 1) terms)) new
-more-winners terms k d old new below h same chosen others = rw (map_more term_of terms k d below) (AreWinners-push (terms_in (take k terms)) (get_or terms k d) old new h same chosen others)
+pub more-winners : (terms : List Term) (k : ℕ) (d : Term) (winners : List (Option ClassId)) → k < length terms → AreWinners (terms_in (take k terms) ++ term_of (get_or terms k d) ∷ []) winners → AreWinners (terms_in (take (k + 1) terms)) winners
+more-winners terms k d winners below h = rw (front-more terms k d below) h
 
 -- there are none before the first term
 pub no-winners : (winners : List (Option ClassId)) → All (λ winner. winner ≡ None) winners → AreWinners [] winners

@@ -1,23 +1,24 @@
 -- The terms of a prefix, a class after another. The prefix makes the winner choice of each, so each input has one winner in them.
-use Rattle.std.proofs.Common.{◌≡◌, ℕ, zero, suc, ◌+◌, ◌<◌, ◌≤◌, List, [], ◌∷◌, ◌++◌, Bool, true, false, not, ◌==◌, arith, refl, sym, ◌∙◌, ap, inl, inr, length, Option, Some, None, eq-eqb, take, take_all, get_or}
+use Rattle.std.proofs.Common.{◌≡◌, ℕ, zero, suc, ◌+◌, ◌<◌, ◌≤◌, List, [], ◌∷◌, ◌++◌, Bool, true, false, not, ◌==◌, arith, refl, sym, ◌∙◌, ap, inl, inr, length, Option, Some, None, eq-eqb, take, take_all, get_or, flat_map}
 use Rattle.std.specs.Prelude.{filter, slice_get, slice_index}
 use Rattle.std.specs.List.{list_all, range_with_len, enumerate_from}
 use Rattle.std.proofs.lemmas.Bool.{and_from, cases_Bool, lt-ltb, or_left, or_right}
 use Rattle.std.proofs.lemmas.Bool.Decides.{eqb_tells}
-use Rattle.std.proofs.lemmas.List.{append-nil, length-map, length-take, map_more}
+use Rattle.std.proofs.lemmas.List.{append-nil, append_assoc, length-map, length-take, map_more}
 use Rattle.std.proofs.lemmas.List.Concat.{flat_map-append}
-use Rattle.std.proofs.lemmas.List.Folds.{list_all-map}
+use Rattle.std.proofs.lemmas.List.Folds.{list_all-append, list_all-map}
 use Rattle.std.proofs.lemmas.Option.{get_or_from_slice_get, slice_get_within}
 use Rattle.ot_base.specs.declared.tableau.ClassId.{ClassId}
 use Rattle.ot_theory.specs.Rankings.{numbers_below}
-use Rattle.ot_theory.specs.Problems.{Problem}
+use Rattle.ot_theory.specs.Problems.{Problem, givens}
 use Rattle.ot_theory.specs.Languages as theory
-use Rattle.ot_theory.specs.Languages.{classes_at, refuted, terms_of, terms_of_class}
+use Rattle.ot_theory.specs.Languages.{Loser, Given, classes_at, refuted, terms_of, terms_of_class, terms_of_givens}
 use Rattle.ot_theory.specs.Refutations.{agree, certificate_of, is_term, one_winner_each, refutes}
 use Rattle.ot_theory.proofs.Certificates.{all-weaker, certificate-all}
 use Rattle.ot_theory.proofs.Optimal.{all-flat_map, refuted-conditions}
 use Rattle.ot_theory.proofs.Sets.{is_hopeless}
 use Rattle.ot_theory.proofs.Terms.{term}
+use Rattle.ot_theory.proofs.WinnerTerms.{chosen-one, givens-all, is_chosen}
 use Rattle.violation_profiles.proofs.Inputs.{AllFit-prefix}
 use Rattle.violation_profiles.specs.WellFormed.{IsPrefix, IsWellFormed}
 use Rattle.refutation.specs.declared.term.Term.{Term}
@@ -33,7 +34,12 @@ pub terms_of-push : (problem : Problem) (prefix : List ℕ) (i a : ℕ) → leng
 terms_of-push problem prefix i a h =
     let terms : ℕ × ℕ → List theory.Term = λ (j, b). terms_of_class (classes_at problem j) j b in
     let e : 0 + length prefix ≡ i = omega arith in
-    rw (enumerate-push 0 prefix a, e, flat_map-append terms (enumerate_from 0 prefix) ((i, a) ∷ [])) (ap (λ (l : List theory.Term). terms_of problem prefix ++ l) (append-nil (terms (i, a))))
+    rw (enumerate-push 0 prefix a, e, flat_map-append terms (enumerate_from 0 prefix) ((i, a) ∷ []), append-nil (terms (i, a)))
+    (sym (append_assoc (terms_of_givens problem) (flat_map terms (enumerate_from 0 prefix)) (terms (i, a))))
+
+-- the terms of no class are the given pairs
+pub terms_of-none : (problem : Problem) → terms_of problem [] ≡ terms_of_givens problem
+terms_of-none problem = append-nil (terms_of_givens problem)
 
 -- the terms of the first classes, with those of one class more
 pub terms-more : (problem : Problem) (classes : List ClassId) (i : ℕ) (d : ClassId) (old new : List theory.Term) → i < length classes → old ≡ terms_of problem (class_numbers (take i classes))
@@ -62,12 +68,14 @@ all-filtered q s a (suc n) h =
       | inr e ↦ rw e rest
     ]
 
--- what each of its classes passes against each other class of the input, all terms of a prefix pass
-terms_of-all : (q : theory.Term → Bool) (problem : Problem) (prefix : List ℕ)
+-- what each given pair and each of its classes against each other class of the input passes, all terms of a prefix pass
+terms_of-all : (q : theory.Term → Bool) (problem : Problem) (prefix : List ℕ) → ((k : ℕ) → k < length (givens problem) → q (Given k) ≡ true)
     → ((i a b : ℕ) → slice_get prefix i ≡ Some a → b < length (classes_at problem i) → not (b == a) ≡ true → q (term i a b) ≡ true) → list_all q (terms_of problem prefix) ≡ true
-terms_of-all q problem prefix h =
-    all-flat_map q (λ (i, a). terms_of_class (classes_at problem i) i a) (enumerate_from 0 prefix)
-    ∙ all-enumerated (λ (i, a). list_all q (terms_of_class (classes_at problem i) i a)) 0 prefix (λ i a e. let same : 0 + i ≡ i = omega arith in rw same (of_class i a e))
+terms_of-all q problem prefix g h =
+    list_all-append q (terms_of_givens problem) (flat_map (λ (i, a). terms_of_class (classes_at problem i) i a) (enumerate_from 0 prefix))
+    ∙ and_from _ _ (givens-all q problem g)
+    (all-flat_map q (λ (i, a). terms_of_class (classes_at problem i) i a) (enumerate_from 0 prefix)
+    ∙ all-enumerated (λ (i, a). list_all q (terms_of_class (classes_at problem i) i a)) 0 prefix (λ i a e. let same : 0 + i ≡ i = omega arith in rw same (of_class i a e)))
   where
     of_class : (i a : ℕ) → slice_get prefix i ≡ Some a → list_all q (terms_of_class (classes_at problem i) i a) ≡ true
     of_class i a e =
@@ -76,11 +84,11 @@ terms_of-all q problem prefix h =
 
 -- The terms of a prefix refute it, if no ranking keeps them.
 pub terms_of-made : (problem : Problem) (prefix : List ℕ) → refutes (terms_of problem prefix) prefix ≡ true
-terms_of-made problem prefix = terms_of-all (is_made prefix) problem prefix (λ i a b e below other. rw e (eq-eqb a a refl))
+terms_of-made problem prefix = terms_of-all (is_made prefix) problem prefix (λ k below. refl) (λ i a b e below other. rw e (eq-eqb a a refl))
 
 -- They are terms of the problem.
 pub terms_of-genuine : (problem : Problem) (prefix : List ℕ) → IsPrefix problem prefix → list_all (is_term problem) (terms_of problem prefix) ≡ true
-terms_of-genuine problem prefix p = terms_of-all (is_term problem) problem prefix (λ i a b e below other.
+terms_of-genuine problem prefix p = terms_of-all (is_term problem) problem prefix (λ k below. lt-ltb _ _ below) (λ i a b e below other.
     let short = slice_get_within prefix i a e in
     let same : slice_index prefix i ≡ a = get_or_from_slice_get prefix i a 0 e in
     let class = p.within i short in
@@ -88,23 +96,11 @@ terms_of-genuine problem prefix p = terms_of-all (is_term problem) problem prefi
 
 -- Where a prefix makes the winner choice of each term, each input has one winner in them.
 pub made-one : (prefix : List ℕ) (terms : List theory.Term) → refutes terms prefix ≡ true → one_winner_each terms ≡ true
-made-one prefix terms h = all-weaker (is_made prefix) (λ s. list_all (agree s) terms) terms (λ s a. all-weaker (is_made prefix) (agree s) terms (λ t b. by s t a b) h) h
+made-one prefix terms h = chosen-one (slice_get prefix) terms (all-weaker (is_made prefix) (is_chosen (slice_get prefix)) terms made h)
   where
-    chosen : (w v : ℕ) → (w == v) ≡ true → w ≡ v
-    chosen w v e = elim (eqb_tells w v) [ inl same ↦ same.1 | inr other ↦ absurd (let no : true ≡ false = sym e ∙ other.0 in cc) ]
-
-    one : (s t : theory.Term) → s.input ≡ t.input → (class : Option ℕ) → slice_get prefix s.input ≡ class → is_made prefix s ≡ true → is_made prefix t ≡ true → s.winner ≡ t.winner
-    one s t e None f a b = absurd (let no : false ≡ true = rw f at a in cc)
-    one s t e (Some w) f a b =
-        let at_s : (w == s.winner) ≡ true = rw f at a in
-        let at_t : (w == t.winner) ≡ true = rw f at (rw (← e) at b) in
-        sym (chosen w s.winner at_s) ∙ chosen w t.winner at_t
-
-    by : (s t : theory.Term) → is_made prefix s ≡ true → is_made prefix t ≡ true → agree s t ≡ true
-    by s t a b = elim (eqb_tells s.input t.input) [
-      | inl same ↦ or_right _ _ (eq-eqb _ _ (one s t same.1 (slice_get prefix s.input) refl a b))
-      | inr other ↦ or_left _ _ (ap not other.0)
-    ]
+    made : (t : theory.Term) → is_made prefix t ≡ true → is_chosen (slice_get prefix) t ≡ true
+    made (Loser i a b) e = e
+    made (Given k) e = refl
 
 pub are_terms-of_prefix : (problem : Problem) (prefix : List ℕ) (terms : List Term) → IsPrefix problem prefix → terms_in terms ≡ terms_of problem prefix → are_terms problem terms ≡ true
 are_terms-of_prefix problem prefix terms p e = sym (list_all-map (is_term problem) term_of terms) ∙ rw e (terms_of-genuine problem prefix p)

@@ -3,7 +3,7 @@
 ghost use Rattle.std.specs.Prelude.{◌≡◌, ◌<◌, List, [], ◌∷◌, ◌++◌, length, take, true, OnOk};
 ghost use Rattle.ot_theory.specs.Problems as problems;
 ghost use Rattle.ot_theory.specs.Languages as theory;
-ghost use Rattle.ot_theory.specs.Languages.{classes_at, terms_of_class};
+ghost use Rattle.ot_theory.specs.Languages.{classes_at, terms_of_class, terms_of_givens};
 ghost use Rattle.ot_theory.specs.Reductions.{IsImplied, IsStronger};
 ghost use Rattle.ot_theory.specs.Refutations.{is_term};
 ghost use Rattle.refutation.specs.Terms.{term_of};
@@ -54,13 +54,24 @@ impl Asked {
         for b in 0..p.classes(input) {
             let loser = ClassId(b as u16);
             if loser != winner {
-                let term = Term {
+                let term = Term::Loser {
                     input,
                     winner,
                     loser,
                 };
                 self.add_term(p, term, from)?;
             }
+        }
+        Ok(())
+    }
+
+    /// Adds the given pairs. One is left out where its condition is implied by that of a term that stands here.
+    pub(crate) fn add_givens(&mut self, p: &Problem) -> Result<(), NoMemory>
+        ensures { OnOk result ((whole : List theory.Term) → AreAsked p.now whole self.old.terms.items self.old.conditions.items
+            → AreAsked p.now (whole ++ terms_of_givens p.now) self.new.terms.items self.new.conditions.items) }
+    {
+        for k in 0..p.givens().len() {
+            self.add_term(p, Term::Given(k as u32), 0)?;
         }
         Ok(())
     }

@@ -1,21 +1,23 @@
 //! A contradiction, and whether some terms are one of a problem.
 
-ghost use Rattle.std.specs.Prelude.{All, ◌≡◌, ◌≢◌, ◌<◌, ◌==◌, ℕ, true, Some, None, ◌∷◌, IsTrue, IfOk, length, map};
+ghost use Rattle.std.specs.Prelude.{All, ◌≡◌, ◌≢◌, ◌<◌, ◌==◌, ℕ, List, [], ◌++◌, true, Some, None, ◌∷◌, IsTrue, IfOk, length, map};
 ghost use Rattle.ot_base.specs.declared.limits.TheConstants.{INPUT_LIMIT};
 ghost use Rattle.ot_theory.specs.Conditions.{fusion, is_contradictory};
+ghost use Rattle.ot_theory.specs.Languages as theory;
 ghost use Rattle.ot_theory.specs.Languages.{condition_of};
 ghost use Rattle.ot_theory.specs.Refutations.{is_term, one_winner_each, is_contradiction};
 ghost use Rattle.std.specs.Option.{option_map_or};
 ghost use Rattle.refutation.specs.Terms.{are_terms, term_of, terms_in};
-ghost use Rattle.refutation.specs.Winners.{class_at};
+ghost use Rattle.refutation.specs.Winners.{class_at, AreWinners, IsBelow};
 
 use crate::term::{Term, condition_of, is_term};
 use erc_fusion::{fuse, is_contradiction};
 use erc_vectors::{Condition, List, NoMemory};
-use ot_base::{ClassId, INPUT_LIMIT};
+use ot_base::{ClassId, INPUT_LIMIT, InId};
 use violation_profiles::Problem;
 
-/// Some terms, in order. Those of a genuine contradiction show that no ranking makes each of their winners optimal.
+/// Some terms, in order. Those of a genuine contradiction show that no ranking keeps their given pairs and makes each of their winners
+/// optimal.
 #[derive(Debug, Drop)]
 pub struct Contradiction {
     pub terms: List<Term>,
@@ -32,8 +34,8 @@ impl Contradiction {
     }
 }
 
-/// Whether the terms of a contradiction are some of the problem, in range and with a loser other than the winner, and at least
-/// one, with no more than one winner for each input, and their conditions fuse to an L and no W (Prince 2002). It takes
+/// Whether the terms of a contradiction are some of the problem, in range and with a loser other than the winner or given pairs, and
+/// at least one, with no more than one winner for each input, and their conditions fuse to an L and no W (Prince 2002). It takes
 /// no memory.
 pub fn is_genuine(p: &Problem, c: &Contradiction) -> bool
     ensures { result ≡ is_contradiction p.now (terms_in c.now.terms) }
@@ -76,19 +78,32 @@ fn no_winners() -> [Option<ClassId>; INPUT_LIMIT]
     [None; INPUT_LIMIT]
 }
 
-/// Whether a term has the winner of its input so far, which it becomes where there is none.
+/// Whether a term gives its input the winner that it has so far, or no winner. The first that gives it one sets it.
 fn agrees(winners: &mut [Option<ClassId>], term: &Term) -> bool
-    requires { term.now.input.0 < length winners.old }
-    ensures agrees { result ≡ option_map_or (λ a. a.0 == term.now.winner.0) (class_at winners.old term.now.input.0) true }
-    ensures chosen { class_at winners.new term.now.input.0 ≡ Some (option_map_or (λ a. a) (class_at winners.old term.now.input.0) term.now.winner) }
-    ensures others { (i : ℕ) → i ≢ term.now.input.0 → class_at winners.new i ≡ class_at winners.old i }
+    requires { IsBelow (length winners.old) (term_of term.now) }
+    ensures one { (terms : List theory.Term) → AreWinners terms winners.old → one_winner_each terms ≡ true → result ≡ one_winner_each (terms ++ term_of term.now ∷ []) }
+    ensures winners { (terms : List theory.Term) → AreWinners terms winners.old → AreWinners (terms ++ term_of term.now ∷ []) winners.new }
     ensures length { length winners.new ≡ length winners.old }
 {
-    let winner = &mut winners[term.input.0 as usize];
+    match *term {
+        Term::Loser { input, winner, .. } => has_winner(winners, input, winner),
+        Term::Given(_) => true,
+    }
+}
+
+/// Whether an input has this winner so far, which it gets where it has none.
+fn has_winner(winners: &mut [Option<ClassId>], input: InId, class: ClassId) -> bool
+    requires { input.0 < length winners.old }
+    ensures agrees { result ≡ option_map_or (λ a. a.0 == class.0) (class_at winners.old input.0) true }
+    ensures chosen { class_at winners.new input.0 ≡ Some (option_map_or (λ a. a) (class_at winners.old input.0) class) }
+    ensures others { (i : ℕ) → i ≢ input.0 → class_at winners.new i ≡ class_at winners.old i }
+    ensures length { length winners.new ≡ length winners.old }
+{
+    let winner = &mut winners[input.0 as usize];
     match *winner {
-        Some(a) => a == term.winner,
+        Some(a) => a == class,
         None => {
-            *winner = Some(term.winner);
+            *winner = Some(class);
             true
         }
     }

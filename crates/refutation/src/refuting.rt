@@ -1,8 +1,8 @@
 //! What shows that no ranking makes the classes of a prefix optimal.
 
-ghost use Rattle.std.specs.Prelude.{◌≡◌, IfOk, IsTrue};
+ghost use Rattle.std.specs.Prelude.{◌≡◌, ℕ, IfOk, IsTrue};
 ghost use Rattle.std.specs.List.{list_all};
-ghost use Rattle.ot_theory.specs.Languages.{refuted, terms_of};
+ghost use Rattle.ot_theory.specs.Languages.{Loser, refuted, terms_of};
 ghost use Rattle.ot_theory.specs.Refutations.{EachIsNeeded, certificate_of, is_contradiction, one_winner_each, refutes};
 ghost use Rattle.refutation.specs.Asked.{AreAsked};
 ghost use Rattle.refutation.specs.Prefixes.{class_numbers, is_made};
@@ -13,14 +13,14 @@ use crate::asked::Asked;
 use crate::certificate::core_of;
 use crate::contradiction::Contradiction;
 use crate::term::Term;
-use crate::winners::add_terms;
+use crate::winners::{add_terms, given_terms};
 use erc_vectors::{List, NoMemory};
 use ot_base::{ClassId, InId};
 use std::alloc::Global;
 use violation_profiles::Problem;
 
-/// Each class of a prefix of the problem against each other class of its input, in order of input and then of loser. No input
-/// has two winners in them.
+/// The given pairs, and then each class of a prefix of the problem against each other class of its input, in order of input and then of
+/// loser. No input has two winners in them.
 pub fn terms_of(alloc: Global, p: &Problem, prefix: &[ClassId]) -> Result<List<Term>, NoMemory>
     requires { IsPrefix p.now (class_numbers prefix.now) }
     ensures terms { IfOk result (λ terms. terms_in terms ≡ terms_of p.now (class_numbers prefix.now)) }
@@ -28,29 +28,30 @@ pub fn terms_of(alloc: Global, p: &Problem, prefix: &[ClassId]) -> Result<List<T
     ensures one { IfOk result (λ terms. IsTrue (one_winner_each (terms_in terms))) }
 {
     prove!(prefix.len() <= p.inputs());
-    let mut terms = List::new(alloc);
+    let mut terms = given_terms(alloc, p)?;
     for (i, winner) in prefix.iter().enumerate() {
         add_terms(&mut terms, p, InId(i as u32), *winner)?;
     }
     Ok(terms)
 }
 
-/// What the classes of a prefix of the problem ask of a ranking: its terms and their conditions, without those that earlier ones
-/// imply.
+/// What the given pairs and the classes of a prefix of the problem ask of a ranking: its terms and their conditions, without those that
+/// earlier ones imply.
 pub fn asked_of(alloc: Global, p: &Problem, prefix: &[ClassId]) -> Result<Asked, NoMemory>
     requires { IsPrefix p.now (class_numbers prefix.now) }
     ensures { IfOk result (λ asked. AreAsked p.now (terms_of p.now (class_numbers prefix.now)) asked.terms.items asked.conditions.items) }
 {
     prove!(prefix.len() <= p.inputs());
     let mut asked = Asked::nothing(alloc);
+    asked.add_givens(p)?;
     for (i, winner) in prefix.iter().enumerate() {
         asked.add(p, InId(i as u32), *winner, 0)?;
     }
     Ok(asked)
 }
 
-/// Whether a prefix makes each of the winner choices of a contradiction: of each term, it is longer than the number of the
-/// input and has the winner at this input. It takes no memory.
+/// Whether a prefix makes each of the winner choices of a contradiction: of each term with a winner, it is longer than the number of
+/// the input and has the winner at this input. A given pair asks nothing of it. It takes no memory.
 pub fn refutes(c: &Contradiction, prefix: &[ClassId]) -> bool
     ensures { result ≡ refutes (terms_in c.now.terms) (class_numbers prefix.now) }
 {
@@ -64,12 +65,22 @@ fn makes_each(prefix: &[ClassId], terms: &[Term]) -> bool
     terms.iter().all(|term| makes(prefix, term))
 }
 
-/// Whether a prefix has the winner of a term at the input of the term.
+/// Whether a prefix has the winner of a term at the input of the term, where the term has one.
 fn makes(prefix: &[ClassId], term: &Term) -> bool
     ensures { result ≡ is_made (class_numbers prefix.now) (term_of term.now) }
 {
-    match prefix.get(term.input.0 as usize) {
-        Some(class) => *class == term.winner,
+    match *term {
+        Term::Loser { input, winner, .. } => has_class(prefix, input, winner),
+        Term::Given(_) => true,
+    }
+}
+
+/// Whether a prefix has this class at the input.
+fn has_class(prefix: &[ClassId], input: InId, winner: ClassId) -> bool
+    ensures { (loser : ℕ) → result ≡ is_made (class_numbers prefix.now) (Loser input.0 winner.0 loser) }
+{
+    match prefix.get(input.0 as usize) {
+        Some(class) => *class == winner,
         None => false,
     }
 }

@@ -64,10 +64,22 @@ fn problem(alloc: Global, rows: &Rows) -> Result<Problem, NoMemory> {
 fn shown(alloc: Global, terms: &[Term]) -> Result<String, Fail> {
     let mut text = String::new(alloc);
     for term in terms {
-        let i = term.input.0.saturating_add(1);
-        let a = term.winner.0.saturating_add(1);
-        let b = term.loser.0.saturating_add(1);
-        write!(text, "{i}:{a}>{b} ")?;
+        match term {
+            Term::Loser {
+                input,
+                winner,
+                loser,
+            } => {
+                let i = input.0.saturating_add(1);
+                let a = winner.0.saturating_add(1);
+                let b = loser.0.saturating_add(1);
+                write!(text, "{i}:{a}>{b} ")?;
+            }
+            Term::Given(k) => {
+                let k = k.saturating_add(1);
+                write!(text, "g{k} ")?;
+            }
+        }
     }
     Ok(text)
 }
@@ -76,7 +88,7 @@ fn shown(alloc: Global, terms: &[Term]) -> Result<String, Fail> {
 fn contradiction(alloc: Global, terms: &[(u32, u16, u16)]) -> Result<Contradiction, NoMemory> {
     let mut list = List::new(alloc);
     for (input, winner, loser) in terms {
-        list.push(Term {
+        list.push(Term::Loser {
             input: InId(*input),
             winner: ClassId(*winner),
             loser: ClassId(*loser),

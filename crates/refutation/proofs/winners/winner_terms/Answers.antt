@@ -1,10 +1,14 @@
 -- An input that has a winner adds its terms.
 use Rattle.std.proofs.Common.{◌∙◌, None, Some, arith, ap, sym}
 use Rattle.std.proofs.lemmas.List.{append-nil}
+use Rattle.ot_theory.specs.Languages.{terms_of_givens}
 use Rattle.refutation.specs.Terms.{terms_in}
 use Rattle.refutation.proofs.Winning.{one-input, winners-are_terms, winners-one_winner}
 use Rattle.refutation.proofs.winners.winner_terms.Goals as goal
 use Rattle.refutation.proofs.winners.winner_terms.Goals.{in-Some+in_ok-add_terms, in_default}
+
+pub loop-i-init : goal.loop-i-init
+loop-i-init c = c.in_ok-terms.ensures ∙ sym (append-nil (terms_of_givens c.args.p.now))
 
 pub loop-i-preserved : goal.loop-i-preserved
 loop-i-preserved c = elim c.match-winner.branch [
