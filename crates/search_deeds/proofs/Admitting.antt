@@ -33,12 +33,10 @@ shifted : (word s i : ℕ) → bit_at (word / 2 ^ s) i ≡ bit_at word (s + i)
 shifted word s i = ap (λ x. x % 2) (shr-shr word s i)
 
 -- ---- the winner that terms give to an input
-pub winner-made : (terms : List rust.Term) (k : ℕ) (prefix : List ℕ) → k < length terms → refutes (terms_in terms) prefix ≡ true
-    → ((get_or terms k no_term).input.0 < length prefix) × (slice_index prefix (get_or terms k no_term).input.0 ≡ (get_or terms k no_term).winner.0)
-winner-made terms k prefix within made =
+pub term-made : (terms : List rust.Term) (k : ℕ) (prefix : List ℕ) → k < length terms → refutes (terms_in terms) prefix ≡ true → is_made prefix (term_of (get_or terms k no_term)) ≡ true
+term-made terms k prefix within made =
     let one : is_made prefix (get_or (terms_in terms) k nothing) ≡ true = AllPass-from_list_all (is_made prefix) (terms_in terms) made k nothing (omega (arith, within, length-map terms term_of)) in
-    let here : is_made prefix (term_of (get_or terms k no_term)) ≡ true = rw (term-at terms k within) at one in
-    made_at prefix (get_or terms k no_term).input.0 (get_or terms k no_term).winner.0 here
+    rw (term-at terms k within) at one
 
 -- ---- the words of a row: those that the winner takes have the bit, among the first ones
 pub record AreGiven (old new : List ℕ) (winner : Option ClassId) (bit to : ℕ) : Type 0 where
@@ -119,6 +117,9 @@ others-at old blocks prefix count k before block room below begins within is mor
         | inr other ↦ rw (get_or-set_other blocks (count / 64) (k / 64) block d other) (now.each d)
       ];
     }
+
+pub own-at : (blocks : List Block) (prefix : List ℕ) (count : ℕ) (block : Block) → count / 64 < length blocks → IsAdmitted block prefix (count % 64) → IsAdmittedAt (set blocks (count / 64) block) prefix count
+own-at blocks prefix count block within h = record { each = λ d. rw (get_or-set_same blocks (count / 64) block d within) h }
 
 -- ---- the next place that is admitted
 pub record ArePassed (blocks : List Block) (prefix : List ℕ) (from to : ℕ) : Type 0 where

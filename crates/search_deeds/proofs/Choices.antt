@@ -1,34 +1,34 @@
 -- The last choice that the terms of a contradiction ask for; and that the index holds the places of all that refute a prefix.
-use Rattle.std.proofs.Common.{◌≡◌, ◌≢◌, ◌⊎◌, ℕ, zero, suc, ◌+◌, ◌*◌, ◌<◌, ◌≤◌, List, [], ◌∷◌, ◌++◌, Bool, true, false, not, ◌&&◌, ◌||◌, ◌==◌, arith, refl, sym, ◌∙◌, ap, inl, inr, length, take, set, get_or, slice_index}
+use Rattle.std.proofs.Common.{◌≡◌, ◌≢◌, ◌⊎◌, ℕ, zero, suc, ◌+◌, ◌*◌, ◌<◌, ◌≤◌, List, [], ◌∷◌, ◌++◌, Bool, true, false, not, ◌&&◌, ◌||◌, ◌==◌, arith, refl, sym, ◌∙◌, ap, inl, inr, length, take, set, get_or, slice_index, Option, Some, None}
 use Rattle.std.specs.Prelude.{All, Contains, nat_le, nat_lt, slice_get, slice_index_or}
 use Rattle.std.specs.List.{list_all, list_any}
 use Rattle.std.specs.Option.{option_map_or}
-use Rattle.std.proofs.lemmas.Bool.{and_parts, and_from, cases_Bool, cases_lt, cases_eq, eq-eqb, le-leb, leb-true, eqb-true, not-true, or_cases, or_right, ltb-true}
+use Rattle.std.proofs.lemmas.Bool.{and_parts, and_from, cases_Bool, cases_lt, cases_eq, eq-eqb, le-leb, leb-true, eqb-true, not-true, or_cases, or_left, or_right, ltb-true}
 use Rattle.std.proofs.lemmas.List.{length-map, get_or-take, get_or-set_same, get_or-set_other, get_or_append_left, get_or_at, length-take-le, length_push, length-set, get_or_default, take_more, take_all, get_or-map}
 use Rattle.std.proofs.lemmas.List.Elements.{All-nil, All-head, All-tail, All-weaker, All-push, Contains-push, Contains-append_left}
 use Rattle.std.proofs.lemmas.List.Sums.{AllPass-from_list_all, position_or_len_is}
-use Rattle.std.proofs.lemmas.List.Folds.{list_any_more, list_any_kept}
-use Rattle.ot_theory.proofs.Parts.{found}
+use Rattle.std.proofs.lemmas.List.Folds.{list_all-append, list_any-append}
 use Rattle.std.proofs.lemmas.Nat.{mul-add-lt}
 use Rattle.ot_theory.specs.Problems.{Problem}
-use Rattle.ot_theory.specs.Languages.{Term, classes_at, refuted}
+use Rattle.ot_theory.specs.Languages.{Term, Loser, Given, classes_at, refuted}
 use Rattle.ot_theory.specs.Refutations.{agree, is_contradiction, is_term, one_winner_each, refutes}
-use Rattle.ot_theory.proofs.Certificates.{contradiction-refutes}
+pub use Rattle.ot_theory.specs.Refutations.{is_made}
+use Rattle.ot_theory.proofs.WinnerTerms.{agree-tells}
+use Rattle.ot_theory.proofs.Certificates.{all-weaker, contradiction-refutes}
 use Rattle.violation_profiles.specs.WellFormed.{IsPrefix, IsWellFormed}
 use Rattle.violation_profiles.proofs.Inputs.{AllFit-prefix}
 use Rattle.refutation.specs.declared.term.Term as rust
+use Rattle.refutation.specs.declared.term.Term.TheVariants as rust_terms
 use Rattle.refutation.specs.declared.contradiction.Contradiction.{Contradiction}
 use Rattle.ot_base.specs.declared.tableau.ClassId.{ClassId}
 use Rattle.refutation.specs.Prefixes.{class_numbers}
 use Rattle.refutation.specs.Terms.{term_of, terms_in}
 use Rattle.refutation.specs.Typologies.{certificates_of}
 use Rattle.search_deeds.specs.Gathered.{first_refuting}
-use Rattle.search_deeds.specs.Indexed.{is_last, IsAscending, HoldsRefuting, IsLaidOut, IsIndex}
+use Rattle.search_deeds.specs.Indexed.{are_given, is_given, is_last, is_up_to, IsAscending, HoldsRefuting, IsBucket, IsLaidOut, IsIndex, IsLastOf}
+pub use Rattle.search_deeds.specs.Indexed.{gives}
 
 -- ---- what a prefix makes
-abbrev pub is_made : List ℕ → Term → Bool
-is_made prefix term = option_map_or (λ a. a == term.winner) (slice_get prefix term.input) false
-
 pub made_at : (prefix : List ℕ) (i w : ℕ) → option_map_or (λ a. a == w) (slice_get prefix i) false ≡ true → (i < length prefix) × (slice_index prefix i ≡ w)
 made_at [] i w h = absurd (cc)
 made_at (x ∷ prefix) zero w h = (omega arith, eqb-true x w h)
@@ -40,33 +40,35 @@ made_front (x ∷ prefix) i w zero b h = absurd (omega arith)
 made_front (x ∷ prefix) zero w (suc k) b h = h
 made_front (x ∷ prefix) (suc i) w (suc k) b h = made_front prefix i w k (omega arith) h
 
--- the terms give input i the winner a
-abbrev pub gives : ℕ → ℕ → Term → Bool
-gives i a term = (term.input == i) && (term.winner == a)
-
 -- no term gives the last input its last class: so a shorter front makes them all
 earlier : (prefix : List ℕ) (k : ℕ) (terms : List Term) → length prefix ≡ suc k → refutes terms prefix ≡ true → list_any (gives k (slice_index prefix k)) terms ≡ false → refutes terms (take k prefix) ≡ true
 earlier prefix k [] long h none = refl
 earlier prefix k (t ∷ terms) long h none =
     let parts = and_parts (is_made prefix t) (refutes terms prefix) h in
     let no = both_false (gives k (slice_index prefix k) t) (list_any (gives k (slice_index prefix k)) terms) none in
-    let at = made_at prefix t.input t.winner parts.0 in
-    let before : t.input < k = elim (cases_eq t.input k) [
-      | inl same ↦ absurd (let yes : gives k (slice_index prefix k) t ≡ true = and_from _ _ (eq-eqb t.input k same) (eq-eqb t.winner (slice_index prefix k) (sym at.1 ∙ ap (slice_index prefix) same)) in
-          let bad : true ≡ false = sym yes ∙ no.0 in cc)
-      | inr other ↦ omega (arith, at.0)
-    ] in
-    and_from _ _ (made_front prefix t.input t.winner k before parts.0) (earlier prefix k terms long parts.1 no.1)
+    and_from _ _ (still t parts.0 no.0) (earlier prefix k terms long parts.1 no.1)
   where
     both_false : (a b : Bool) → (a || b) ≡ false → (a ≡ false) × (b ≡ false)
     both_false true b h = absurd (cc)
     both_false false b h = (refl, h)
 
-no_later : (prefix : List ℕ) (k : ℕ) (terms : List Term) → length prefix ≡ suc k → refutes terms prefix ≡ true → list_all (λ t. nat_le t.input k) terms ≡ true
-no_later prefix k [] long h = refl
-no_later prefix k (t ∷ terms) long h =
-    let parts = and_parts (is_made prefix t) (refutes terms prefix) h in
-    and_from _ _ (le-leb t.input k (omega (arith, (made_at prefix t.input t.winner parts.0).0))) (no_later prefix k terms long parts.1)
+    still : (t : Term) → is_made prefix t ≡ true → gives k (slice_index prefix k) t ≡ false → is_made (take k prefix) t ≡ true
+    still (Given j) made other = refl
+    still (Loser i a b) made other =
+        let at = made_at prefix i a made in
+        let before : i < k = elim (cases_eq i k) [
+          | inl same ↦ absurd (let yes : gives k (slice_index prefix k) (Loser i a b) ≡ true = and_from _ _ (eq-eqb i k same) (eq-eqb a (slice_index prefix k) (sym at.1 ∙ ap (slice_index prefix) same)) in
+              let bad : true ≡ false = sym yes ∙ other in cc)
+          | inr apart ↦ omega (arith, apart, at.0)
+        ] in
+        made_front prefix i a k before made
+
+no_later : (prefix : List ℕ) (k : ℕ) (terms : List Term) → length prefix ≡ suc k → refutes terms prefix ≡ true → list_all (is_up_to k) terms ≡ true
+no_later prefix k terms long h = all-weaker (is_made prefix) (is_up_to k) terms within h
+  where
+    within : (t : Term) → is_made prefix t ≡ true → is_up_to k t ≡ true
+    within (Loser i a b) made = le-leb i k (omega (arith, (made_at prefix i a made).0))
+    within (Given j) made = refl
 
 IsPrefix-take : (problem : Problem) (prefix : List ℕ) (k : ℕ) → k ≤ length prefix → IsPrefix problem prefix → IsPrefix problem (take k prefix)
 IsPrefix-take problem prefix k short h = record {
@@ -85,17 +87,16 @@ last-refuting problem prefix k terms well p long holds genuine h = elim (cases_B
       let bad : true ≡ false = sym gone ∙ holds in absurd (cc)
 ]
 
--- ---- no contradiction refutes the empty prefix
-some_term : (problem : Problem) (terms : List Term) → is_contradiction problem terms ≡ true → refutes terms [] ≡ true → ⊥
-unfolding is_contradiction
-some_term problem [] genuine h = let no : false ≡ true = genuine in cc
-some_term problem (t ∷ terms) genuine h = let no : false ≡ true = (and_parts (is_made [] t) (refutes terms []) h).0 in cc
+-- ---- what refutes the empty prefix has given pairs alone
+made-none : (t : Term) → is_made [] t ≡ true → is_given t ≡ true
+made-none (Loser i a b) h = let no : false ≡ true = h in absurd (cc)
+made-none (Given k) h = refl
 
-pub HoldsRefuting-none : (problem : Problem) (certificates : List (List Term)) → All (λ terms. is_contradiction problem terms ≡ true) certificates → HoldsRefuting certificates [] []
-HoldsRefuting-none problem certificates genuine = record {
-  ascending = λ j k a b. absurd (omega arith);
-  within = All-nil (λ place. place < length certificates);
-  complete = λ m b h. absurd (some_term problem (get_or certificates m []) (genuine m [] b) h);
+pub HoldsRefuting-none : (problem : Problem) (certificates : List (List Term)) (widest : ℕ) (places : List (List ℕ)) → IsIndex problem certificates widest places → HoldsRefuting certificates [] (slice_index_or places (length problem.inputs * widest) [])
+HoldsRefuting-none problem certificates widest places index = record {
+  ascending = index.ascending (length problem.inputs * widest);
+  within = index.within (length problem.inputs * widest);
+  complete = λ m b h. index.alone m b (all-weaker (is_made []) is_given (get_or certificates m []) made-none h);
 }
 
 pub HoldsRefuting-index : (problem : Problem) (certificates : List (List Term)) (widest : ℕ) (places : List (List ℕ)) (prefix : List ℕ) (k : ℕ) → IsWellFormed problem → IsPrefix problem prefix → length prefix ≡ suc k
@@ -114,29 +115,43 @@ place-within inputs widest k a b c = omega (arith, mul-add-lt k widest a inputs 
 
 -- ---- one certificate more
 abbrev pub nothing : Term
-nothing = record { input = 0; winner = 0; loser = 0 }
+nothing = Loser 0 0 0
 
-is_last-once : (terms : List Term) (i a j b : ℕ) → is_last terms i a ≡ true → is_last terms j b ≡ true → one_winner_each terms ≡ true → (i ≡ j) × (a ≡ b)
+-- a term that gives an input a winner
+pub record Giving (terms : List Term) (i a : ℕ) : Type 0 where
+  pub loser : ℕ
+  pub stands : (q : Term → Bool) → list_all q terms ≡ true → q (Loser i a loser) ≡ true
+
+pub giving : (terms : List Term) (i a : ℕ) → list_any (gives i a) terms ≡ true → Giving terms i a
+giving [] i a h = absurd (cc)
+giving (Loser j c b ∷ terms) i a h = elim (or_cases (gives i a (Loser j c b)) (list_any (gives i a) terms) h) [
+  | inl here ↦
+      let parts = and_parts (j == i) (c == a) here in
+      let input : j ≡ i = eqb-true j i parts.0 in
+      let winner : c ≡ a = eqb-true c a parts.1 in
+      record { loser = b; stands = λ q all. rw (input, winner) at (and_parts (q (Loser j c b)) (list_all q terms) all).0 }
+  | inr later ↦ let g = giving terms i a later in record { loser = g.loser; stands = λ q all. g.stands q (and_parts _ _ all).1 }
+]
+giving (Given k ∷ terms) i a h = let g = giving terms i a h in record { loser = g.loser; stands = λ q all. g.stands q (and_parts _ _ all).1 }
+
+-- what is given alone has no last choice
+given-alone : (terms : List Term) (i a : ℕ) → are_given terms ≡ true → is_last terms i a ≡ true → ⊥
+given-alone terms i a alone last =
+    let g = giving terms i a (and_parts (list_any (gives i a) terms) (list_all (is_up_to i) terms) last).0 in
+    let no : false ≡ true = g.stands is_given alone in
+    cc
+
+pub is_last-once : (terms : List Term) (i a j b : ℕ) → is_last terms i a ≡ true → is_last terms j b ≡ true → one_winner_each terms ≡ true → (i ≡ j) × (a ≡ b)
 is_last-once terms i a j b p q one =
-    let pa = and_parts (list_any (gives i a) terms) (list_all (λ t. nat_le t.input i) terms) p in
-    let pb = and_parts (list_any (gives j b) terms) (list_all (λ t. nat_le t.input j) terms) q in
-    let f = found (gives i a) terms nothing pa.0 in
-    let g = found (gives j b) terms nothing pb.0 in
-    let s : Term = get_or terms f.at nothing in
-    let t : Term = get_or terms g.at nothing in
-    let sf = and_parts (s.input == i) (s.winner == a) f.passes in
-    let tg = and_parts (t.input == j) (t.winner == b) g.passes in
-    let si : s.input ≡ i = eqb-true s.input i sf.0 in
-    let tj : t.input ≡ j = eqb-true t.input j tg.0 in
-    let le1 : s.input ≤ j = leb-true s.input j (AllPass-from_list_all (λ x. nat_le x.input j) terms pb.1 f.at nothing f.within) in
-    let le2 : t.input ≤ i = leb-true t.input i (AllPass-from_list_all (λ x. nat_le x.input i) terms pa.1 g.at nothing g.within) in
-    let ag : agree s t ≡ true = AllPass-from_list_all (agree s) terms (AllPass-from_list_all (λ x. list_all (agree x) terms) terms one f.at nothing f.within) g.at nothing g.within in
-    let same : s.input ≡ t.input = omega arith in
-    let alike : s.winner ≡ t.winner = elim (or_cases (not (s.input == t.input)) (s.winner == t.winner) ag) [
-      | inl other ↦ absurd (let e = eq-eqb s.input t.input same in let no : true ≡ false = sym e ∙ not-true (s.input == t.input) other in cc)
-      | inr here ↦ eqb-true s.winner t.winner here
-    ] in
-    (omega arith, sym (eqb-true s.winner a sf.1) ∙ alike ∙ eqb-true t.winner b tg.1)
+    let pa = and_parts (list_any (gives i a) terms) (list_all (is_up_to i) terms) p in
+    let pb = and_parts (list_any (gives j b) terms) (list_all (is_up_to j) terms) q in
+    let f = giving terms i a pa.0 in
+    let g = giving terms j b pb.0 in
+    let low : i ≤ j = leb-true i j (f.stands (is_up_to j) pb.1) in
+    let high : j ≤ i = leb-true j i (g.stands (is_up_to i) pa.1) in
+    let agreed : agree (Loser i a f.loser) (Loser j b g.loser) ≡ true = g.stands (agree (Loser i a f.loser)) (f.stands (λ s. list_all (agree s) terms) one) in
+    let same : i ≡ j = omega arith in
+    (same, agree-tells i a f.loser j b g.loser agreed same)
 
 one_each : (problem : Problem) (terms : List Term) → is_contradiction problem terms ≡ true → one_winner_each terms ≡ true
 unfolding is_contradiction
@@ -157,50 +172,69 @@ ascending-push bucket n up below j k early within =
           rw (get_or_append_left bucket (n ∷ []) 0 j (omega arith), e, get_or_at bucket n [] 0 (length bucket) refl) (below j 0 (omega arith))
     ]
 
-pushed : (problem : Problem) (certificates : List (List Term)) (widest : ℕ) (old new : List (List ℕ)) (terms : List Term) (i a : ℕ) → IsIndex problem certificates widest old → IsLaidOut problem widest new
-    → is_contradiction problem terms ≡ true → is_last terms i a ≡ true → IsPushed old new (i * widest + a) (length certificates) → IsIndex problem (certificates ++ terms ∷ []) widest new
-pushed problem certificates widest old new terms i a h laid genuine last p = record {
+pushed : (problem : Problem) (certificates : List (List Term)) (widest : ℕ) (old new : List (List ℕ)) (terms : List Term) (at : ℕ) → IsIndex problem certificates widest old → IsLaidOut problem widest new
+    → IsBucket problem widest terms at → IsPushed old new at (length certificates) → IsIndex problem (certificates ++ terms ∷ []) widest new
+pushed problem certificates widest old new terms at h laid bucket p = record {
   laid_out = laid;
-  ascending = λ b. elim (cases_eq b (i * widest + a)) [
-    | inl same ↦ rw (same, p.here) (ascending-push (slice_index_or old (i * widest + a) []) (length certificates) (h.ascending (i * widest + a)) (h.within (i * widest + a)))
+  ascending = λ b. elim (cases_eq b at) [
+    | inl same ↦ rw (same, p.here) (ascending-push (slice_index_or old at []) (length certificates) (h.ascending at) (h.within at))
     | inr other ↦ rw (p.others b other) (h.ascending b)
   ];
-  within = λ b. elim (cases_eq b (i * widest + a)) [
-    | inl same ↦ rw (same, p.here) (All-push (λ place. place < length (certificates ++ terms ∷ [])) (slice_index_or old (i * widest + a) []) (length certificates) (wider (i * widest + a)) (omega (arith, longer)))
+  within = λ b. elim (cases_eq b at) [
+    | inl same ↦ rw (same, p.here) (All-push (λ place. place < length (certificates ++ terms ∷ [])) (slice_index_or old at []) (length certificates) (wider at) (omega (arith, longer)))
     | inr other ↦ rw (p.others b other) (wider b)
   ];
   complete = λ m j b below is small. elim (cases_lt m (length certificates)) [
     | inl before ↦ kept m (j * widest + b) (h.complete m j b before (rw (get_or_append_left certificates (terms ∷ []) [] m before) at is) small)
     | inr behind ↦
         let e : m ≡ length certificates = omega (arith, longer) in
-        let its : get_or (certificates ++ terms ∷ []) m [] ≡ terms = rw e (get_or_at certificates terms [] [] (length certificates) refl) in
-        let same = is_last-once terms i a j b last (rw its at is) (one_each problem terms genuine) in
-        rw (← same.0, ← same.1, p.here, e) (Contains-push (slice_index_or old (i * widest + a) []) (length certificates))
+        let same : j * widest + b ≡ at = bucket.choice j b (rw (its m e) at is) in
+        rw (same, p.here, e) (Contains-push (slice_index_or old at []) (length certificates))
+  ];
+  alone = λ m below is. elim (cases_lt m (length certificates)) [
+    | inl before ↦ kept m (length problem.inputs * widest) (h.alone m before (rw (get_or_append_left certificates (terms ∷ []) [] m before) at is))
+    | inr behind ↦
+        let e : m ≡ length certificates = omega (arith, longer) in
+        let same : length problem.inputs * widest ≡ at = bucket.alone (rw (its m e) at is) in
+        rw (same, p.here, e) (Contains-push (slice_index_or old at []) (length certificates))
   ];
 }
   where
     longer : length (certificates ++ terms ∷ []) ≡ length certificates + 1
     longer = length_push certificates terms
 
+    its : (m : ℕ) → m ≡ length certificates → get_or (certificates ++ terms ∷ []) m [] ≡ terms
+    its m e = rw e (get_or_at certificates terms [] [] (length certificates) refl)
+
     wider : (b : ℕ) → All (λ place. place < length (certificates ++ terms ∷ [])) (slice_index_or old b [])
     wider b = All-weaker (λ place. place < length certificates) (λ place. place < length (certificates ++ terms ∷ [])) (λ place l. omega (arith, longer)) (slice_index_or old b []) (h.within b)
 
     kept : (m b : ℕ) → Contains (slice_index_or old b []) m → Contains (slice_index_or new b []) m
-    kept m b c = elim (cases_eq b (i * widest + a)) [
+    kept m b c = elim (cases_eq b at) [
       | inl same ↦ rw (same, p.here) (rw same at (Contains-append_left (slice_index_or old b []) (length certificates ∷ []) m c))
       | inr other ↦ rw (p.others b other) c
     ]
 
-pub IsIndex-push : (problem : Problem) (certificates : List (List Term)) (widest : ℕ) (old new : List (List ℕ)) (terms : List Term) (i a : ℕ) → IsIndex problem certificates widest old
-    → is_contradiction problem terms ≡ true → is_last terms i a ≡ true → i * widest + a < length old
-    → new ≡ set old (i * widest + a) (slice_index_or old (i * widest + a) [] ++ length certificates ∷ []) → IsIndex problem (certificates ++ terms ∷ []) widest new
-IsIndex-push problem certificates widest old new terms i a h genuine last within e =
-    let bucket : List ℕ = slice_index_or old (i * widest + a) [] ++ length certificates ∷ [] in
-    let laid : IsLaidOut problem widest new = record { wide = h.laid_out.wide; long = rw (e, length-set old (i * widest + a) bucket) h.laid_out.long } in
-    pushed problem certificates widest old new terms i a h laid genuine last (record {
-      here = rw e (get_or-set_same old (i * widest + a) bucket [] within);
-      others = λ b other. rw e (get_or-set_other old (i * widest + a) b bucket [] other);
+pub IsIndex-push : (problem : Problem) (certificates : List (List Term)) (widest : ℕ) (old new : List (List ℕ)) (terms : List Term) (at : ℕ) → IsIndex problem certificates widest old
+    → IsBucket problem widest terms at → at < length old
+    → new ≡ set old at (slice_index_or old at [] ++ length certificates ∷ []) → IsIndex problem (certificates ++ terms ∷ []) widest new
+IsIndex-push problem certificates widest old new terms at h its within e =
+    let bucket : List ℕ = slice_index_or old at [] ++ length certificates ∷ [] in
+    let laid : IsLaidOut problem widest new = record { wide = h.laid_out.wide; long = rw (e, length-set old at bucket) h.laid_out.long } in
+    pushed problem certificates widest old new terms at h laid its (record {
+      here = rw e (get_or-set_same old at bucket [] within);
+      others = λ b other. rw e (get_or-set_other old at b bucket [] other);
     })
+
+-- the bucket of the last choice of a contradiction, and that of given pairs alone
+pub IsBucket-choice : (problem : Problem) (widest : ℕ) (terms : List Term) (i a : ℕ) → is_contradiction problem terms ≡ true → is_last terms i a ≡ true → IsBucket problem widest terms (i * widest + a)
+IsBucket-choice problem widest terms i a genuine last = record {
+  choice = λ j b other. let same = is_last-once terms j b i a other last (one_each problem terms genuine) in rw (same.0, same.1) refl;
+  alone = λ given. absurd (given-alone terms i a given last);
+}
+
+pub IsBucket-alone : (problem : Problem) (widest : ℕ) (terms : List Term) → are_given terms ≡ true → IsBucket problem widest terms (length problem.inputs * widest)
+IsBucket-alone problem widest terms given = record { choice = λ i a last. absurd (given-alone terms i a given last); alone = λ h. refl }
 
 pub IsIndex-none : (problem : Problem) (widest : ℕ) (places : List (List ℕ)) → IsLaidOut problem widest places → ((b : ℕ) → slice_index_or places b [] ≡ []) → IsIndex problem [] widest places
 IsIndex-none problem widest places laid none = record {
@@ -208,6 +242,7 @@ IsIndex-none problem widest places laid none = record {
   ascending = λ b j k l u. absurd (omega (arith, ap (λ (bucket : List ℕ). length bucket) (none b)));
   within = λ b. rw (none b) (All-nil (λ place. place < 0));
   complete = λ m i a b h c. absurd (omega arith);
+  alone = λ m b h. absurd (omega arith);
 }
 
 -- ---- the first of the places whose certificate refutes the prefix is the first of all
@@ -244,25 +279,39 @@ first-none certificates prefix places h none =
         absurd (let no : true ≡ false = sym passes ∙ sym (ap (λ (x : ℕ). refutes (get_or certificates x []) prefix) at) ∙ none c.0 c.1 in cc)
 
 -- ---- walking the terms for the last choice
-pub any-here : (terms : List Term) (k i a : ℕ) (d : Term) → k < length terms → (get_or terms k d).input ≡ i → (get_or terms k d).winner ≡ a → list_any (gives i a) (take (k + 1) terms) ≡ true
-any-here terms k i a d within e f =
-    list_any_more (gives i a) terms k d within ∙ or_right (list_any (gives i a) (take k terms)) _ (and_from _ _ (eq-eqb (get_or terms k d).input i e) (eq-eqb (get_or terms k d).winner a f))
+both-all : (q : Term → Bool) (terms : List Term) (t : Term) → list_all q terms ≡ true → q t ≡ true → list_all q (terms ++ t ∷ []) ≡ true
+both-all q terms t h here = list_all-append q terms (t ∷ []) ∙ and_from _ _ h (and_from _ _ here refl)
 
-pub any-kept : (terms : List Term) (k i a : ℕ) (d : Term) → k < length terms → list_any (gives i a) (take k terms) ≡ true → list_any (gives i a) (take (k + 1) terms) ≡ true
-any-kept terms k i a d within h = list_any_kept (gives i a) terms k h
+-- a term with a winner of an input that is not earlier
+pub last-taken : (terms : List Term) (i a b : ℕ) → list_all (is_up_to i) terms ≡ true → is_last (terms ++ Loser i a b ∷ []) i a ≡ true
+last-taken terms i a b up =
+    and_from _ _
+    (list_any-append (gives i a) terms (Loser i a b ∷ []) ∙ or_right (list_any (gives i a) terms) _ (or_left (gives i a (Loser i a b)) false (and_from _ _ (eq-eqb i i refl) (eq-eqb a a refl))))
+    (both-all (is_up_to i) terms (Loser i a b) up (le-leb i i (omega arith)))
 
-pub none-more : (terms : List Term) (k i : ℕ) (d : Term) (old : ℕ) → k < length terms → old ≤ i → (get_or terms k d).input ≤ i → All (λ t. t.input ≤ old) (take k terms) → All (λ t. t.input ≤ i) (take (k + 1) terms)
-none-more terms k i d old within up here h =
-    rw (take_more terms k d within) (All-push (λ t. t.input ≤ i) (take k terms) (get_or terms k d) (All-weaker (λ t. t.input ≤ old) (λ t. t.input ≤ i) (λ t l. omega arith) (take k terms) h) here)
+-- a term with a winner of no later input
+pub last-kept : (terms : List Term) (t : Term) (i a : ℕ) → is_last terms i a ≡ true → is_up_to i t ≡ true → is_last (terms ++ t ∷ []) i a ≡ true
+last-kept terms t i a h up =
+    let parts = and_parts (list_any (gives i a) terms) (list_all (is_up_to i) terms) h in
+    and_from _ _ (list_any-append (gives i a) terms (t ∷ []) ∙ or_left (list_any (gives i a) terms) _ parts.0) (both-all (is_up_to i) terms t parts.1 up)
 
-all-le : (i : ℕ) (terms : List Term) → All (λ t. t.input ≤ i) terms → list_all (λ t. nat_le t.input i) terms ≡ true
-all-le i [] h = refl
-all-le i (t ∷ terms) h = and_from _ _ (le-leb t.input i (All-head (λ t. t.input ≤ i) t terms h)) (all-le i terms (All-tail (λ t. t.input ≤ i) t terms h))
+pub up-given : (terms : List Term) (i : ℕ) → are_given terms ≡ true → list_all (is_up_to i) terms ≡ true
+up-given terms i h = all-weaker is_given (is_up_to i) terms within h
+  where
+    within : (t : Term) → is_given t ≡ true → is_up_to i t ≡ true
+    within (Loser j c b) h = let no : false ≡ true = h in absurd (cc)
+    within (Given k) h = refl
 
-pub is_last-walked : (terms : List Term) (k i a : ℕ) → length terms ≤ k → 0 < k → (0 < k → list_any (gives i a) (take k terms) ≡ true) → All (λ t. t.input ≤ i) (take k terms) → is_last terms i a ≡ true
-is_last-walked terms k i a all some h none =
-    let whole = take_all k terms all in
-    and_from _ _ (rw whole at (h some)) (all-le i terms (rw whole at none))
+pub up-later : (terms : List Term) (i j : ℕ) → i ≤ j → list_all (is_up_to i) terms ≡ true → list_all (is_up_to j) terms ≡ true
+up-later terms i j more h = all-weaker (is_up_to i) (is_up_to j) terms within h
+  where
+    within : (t : Term) → is_up_to i t ≡ true → is_up_to j t ≡ true
+    within (Loser k c b) h = le-leb k j (omega (arith, more, leb-true k i h))
+    within (Given k) h = refl
+
+pub last-given : (terms : List Term) (k : ℕ) (last : Option (ℕ × ℕ)) → IsLastOf terms last → IsLastOf (terms ++ Given k ∷ []) last
+last-given terms k None h = both-all is_given terms (Given k) h refl
+last-given terms k (Some (i, a)) h = last-kept terms (Given k) i a h refl
 
 each_term : (problem : Problem) (terms : List Term) → is_contradiction problem terms ≡ true → list_all (is_term problem) terms ≡ true
 unfolding is_contradiction
@@ -271,27 +320,16 @@ each_term problem terms h = (and_parts _ _ (and_parts _ _ (and_parts _ _ h).0).0
 -- ---- the last choice is one of the problem
 pub last-within : (problem : Problem) (terms : List Term) (i a : ℕ) → is_contradiction problem terms ≡ true → is_last terms i a ≡ true → (i < length problem.inputs) × (a < length (classes_at problem i))
 last-within problem terms i a genuine last =
-    let f = found (gives i a) terms nothing (and_parts (list_any (gives i a) terms) (list_all (λ t. nat_le t.input i) terms) last).0 in
-    let t : Term = get_or terms f.at nothing in
-    let parts = and_parts (t.input == i) (t.winner == a) f.passes in
-    let input : t.input ≡ i = eqb-true t.input i parts.0 in
-    let winner : t.winner ≡ a = eqb-true t.winner a parts.1 in
-    let is : is_term problem t ≡ true = AllPass-from_list_all (is_term problem) terms (each_term problem terms genuine) f.at nothing f.within in
-    let three = and_parts _ (not (t.loser == t.winner)) is in
-    let two = and_parts _ (nat_lt t.loser (length (classes_at problem t.input))) three.0 in
-    let one = and_parts (nat_lt t.input (length problem.inputs)) (nat_lt t.winner (length (classes_at problem t.input))) two.0 in (
-      omega (arith, input, ltb-true t.input (length problem.inputs) one.0),
-      omega (arith, winner, ap (λ (x : ℕ). length (classes_at problem x)) input, ltb-true t.winner (length (classes_at problem t.input)) one.1),
-    )
-
-pub some-term : (problem : Problem) (terms : List Term) → is_contradiction problem terms ≡ true → 0 < length terms
-unfolding is_contradiction
-some-term problem [] genuine = let no : false ≡ true = genuine in cc
-some-term problem (t ∷ terms) genuine = omega arith
+    let f = giving terms i a (and_parts (list_any (gives i a) terms) (list_all (is_up_to i) terms) last).0 in
+    let is : is_term problem (Loser i a f.loser) ≡ true = f.stands (is_term problem) (each_term problem terms genuine) in
+    let three = and_parts _ (not (f.loser == a)) is in
+    let two = and_parts _ (nat_lt f.loser (length (classes_at problem i))) three.0 in
+    let one = and_parts (nat_lt i (length problem.inputs)) (nat_lt a (length (classes_at problem i))) two.0 in
+    (ltb-true i (length problem.inputs) one.0, ltb-true a (length (classes_at problem i)) one.1)
 
 -- ---- the terms of the program
 abbrev pub no_term : rust.Term
-no_term = record { input = record { 0 = 0 }; winner = record { 0 = 0 }; loser = record { 0 = 0 } }
+no_term = rust_terms.Loser (record { 0 = 0 }) (record { 0 = 0 }) (record { 0 = 0 })
 
 pub term-at : (terms : List rust.Term) (k : ℕ) → k < length terms → get_or (terms_in terms) k nothing ≡ term_of (get_or terms k no_term)
 term-at terms k within = get_or-map term_of terms k no_term nothing within

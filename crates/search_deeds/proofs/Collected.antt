@@ -10,7 +10,7 @@ use Rattle.ot_theory.specs.Hierarchies.{IsLeastHierarchy}
 use Rattle.ot_theory.specs.Problems.{Problem}
 use Rattle.ot_theory.specs.Languages.{conditions_of, languages, IsTypology}
 use Rattle.ot_theory.specs.Refutations.{cuts}
-use Rattle.ot_theory.proofs.Classes.{AllClasses}
+use Rattle.search_deeds.proofs.Fitting.{IsSound}
 use Rattle.search_deeds.specs.Deeds.{Deed, Fate, IsTrueOf, AreHonest, AreBalanced, language_by, languages_in, cuts_in}
 use Rattle.search_deeds.specs.Deeds.Fate.{Opened, Language, Cut}
 use Rattle.refutation.specs.declared.typology.Language as rust
@@ -79,7 +79,7 @@ least-collected problem (deed ∷ deeds) h =
     by (Cut terms) t rest = rest
 
 -- The languages that honest and balanced deeds tell, sorted, are those of the problem, each with its least hierarchy.
-pub typology-collected : (problem : Problem) (deeds : List Deed) → AllClasses problem.constraints problem.inputs → AreHonest problem deeds → AreBalanced problem deeds
+pub typology-collected : (problem : Problem) (deeds : List Deed) → IsSound problem → AreHonest problem deeds → AreBalanced problem deeds
     → (found : List (List ℕ × List ℕ)) → IsPermutation (languages_in deeds) found → IsSorted order (map (λ language. language.0) found) → IsTypology problem found
 typology-collected problem deeds classes honest balanced found members sorted = record {
   all = sorted-same (map (λ language. language.0) found) (languages problem) sorted (sorted-languages problem)
@@ -89,7 +89,7 @@ typology-collected problem deeds classes honest balanced found members sorted = 
 }
 
 -- The prefixes that they cut off, sorted, are the cuts of the problem.
-pub cuts-sorted : (problem : Problem) (deeds : List Deed) → AllClasses problem.constraints problem.inputs → AreHonest problem deeds → AreBalanced problem deeds
+pub cuts-sorted : (problem : Problem) (deeds : List Deed) → IsSound problem → AreHonest problem deeds → AreBalanced problem deeds
     → (prefixes : List (List ℕ)) → IsPermutation (cuts_in deeds) prefixes → IsSorted order prefixes → prefixes ≡ cuts problem
 cuts-sorted problem deeds classes honest balanced prefixes members sorted =
     sorted-same prefixes (cuts problem) sorted (sorted-cuts problem)

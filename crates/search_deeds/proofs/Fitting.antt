@@ -1,12 +1,12 @@
 -- Prefixes of choices, by a test: each of them stands once in the list of prefixes, and each full one once in that of choices.
 use Rattle.std.proofs.Common.{◌≡◌, ℕ, zero, suc, ◌+◌, ◌<◌, ◌≤◌, List, [], ◌∷◌, ◌++◌, Bool, true, false, ◌&&◌, ◌==◌, arith, refl, sym, ◌∙◌, ap, inl, inr, cond, length, map, flat_map, zero-add}
-use Rattle.std.specs.Prelude.{nat_lt, nat_eq}
+use Rattle.std.specs.Prelude.{All, nat_lt, nat_eq}
 use Rattle.std.proofs.lemmas.Bool.{and_parts, ltb-true, ltb-false, le-ltb, cases_Bool}
 use Rattle.std.proofs.lemmas.Bool.Decides.{eqb_tells}
 use Rattle.std.proofs.Math.Bool.{and_assoc}
 use Rattle.std.proofs.lemmas.List.Elements.{All-head, All-tail}
 use Rattle.ot_theory.specs.Rankings.{numbers_below}
-use Rattle.ot_theory.specs.Problems.{Input}
+use Rattle.ot_theory.specs.Problems.{Input, IsPair, Problem, givens}
 use Rattle.ot_theory.specs.Languages.{choices}
 use Rattle.ot_theory.specs.Refutations.{prefixes}
 use Rattle.ot_theory.proofs.Optimal.{AllFit, classes_in}
@@ -48,6 +48,11 @@ pub fits-short : (inputs : List Input) (prefix : List ℕ) → fits inputs prefi
 fits-short inputs [] h = omega arith
 fits-short [] (a ∷ prefix) h = absurd (cc)
 fits-short (input ∷ inputs) (a ∷ prefix) h = omega (arith, fits-short inputs prefix (and_parts _ _ h).1)
+
+-- each input of the problem has classes, and each given pair is of two of its constraints
+pub record IsSound (problem : Problem) : Type 0 where
+  pub classes : AllClasses problem.constraints problem.inputs
+  pub pairs : All (IsPair problem.constraints) (givens problem)
 
 pub AllFit-fits : (n : ℕ) (inputs : List Input) (prefix : List ℕ) → AllClasses n inputs → fits inputs prefix ≡ true → AllFit n inputs prefix
 AllFit-fits n inputs [] c h = tt

@@ -6,7 +6,7 @@ use Rattle.std.proofs.lemmas.List.Elements.{All-weaker}
 use Rattle.ot_theory.specs.Problems.{Input, Problem}
 use Rattle.ot_theory.specs.Languages.{Term, refuted, IsTypology}
 use Rattle.ot_theory.specs.Refutations.{prefixes, cuts, with_certificate, certificates, certificate_named}
-use Rattle.ot_theory.proofs.Classes.{AllClasses}
+use Rattle.search_deeds.proofs.Fitting.{IsSound}
 use Rattle.ot_theory.proofs.Hopeless.{not_any}
 use Rattle.ot_theory.proofs.Optimal.{AreClasses, classes_in}
 use Rattle.violation_profiles.specs.WellFormed.{IsPrefix, IsWellFormed, IsWellFormedInput}
@@ -18,8 +18,8 @@ use Rattle.search_deeds.proofs.Reached.{is_behind_cut}
 use Rattle.search_deeds.proofs.Ascending.{order, times-first}
 use Rattle.search_deeds.proofs.Collected.{cuts-sorted, typology-collected}
 
-pub AllClasses-well_formed : (problem : Problem) → IsWellFormed problem → AllClasses problem.constraints problem.inputs
-AllClasses-well_formed problem w = All-weaker (IsWellFormedInput problem.constraints) (λ (i : Input). AreClasses problem.constraints i.classes) (λ i h. h.classes) problem.inputs w.each
+pub IsSound-well_formed : (problem : Problem) → IsWellFormed problem → IsSound problem
+IsSound-well_formed problem w = record { classes = All-weaker (IsWellFormedInput problem.constraints) (λ (i : Input). AreClasses problem.constraints i.classes) (λ i h. h.classes) problem.inputs w.each; pairs = w.pairs }
 
 fits-within : (inputs : List Input) (prefix : List ℕ) (i : ℕ) → fits inputs prefix ≡ true → i < length prefix → slice_index prefix i < length (classes_in inputs i)
 fits-within inputs [] i h below = absurd (omega arith)
@@ -68,11 +68,11 @@ cuts-refuted problem k d below =
 pub gathered-refuted : (problem : Problem) (deeds : List Deed) (prefixes : List (List ℕ)) → IsWellFormed problem → AreHonest problem deeds → AreBalanced problem deeds → IsPermutation (cuts_in deeds) prefixes → IsSorted order prefixes
     → All (IsRefutedPrefix problem) prefixes
 gathered-refuted problem deeds prefixes w honest balanced members sorted =
-    rw (cuts-sorted problem deeds (AllClasses-well_formed problem w) honest balanced prefixes members sorted) (cuts-refuted problem)
+    rw (cuts-sorted problem deeds (IsSound-well_formed problem w) honest balanced prefixes members sorted) (cuts-refuted problem)
 
 pub gathered-languages : (problem : Problem) (deeds : List Deed) (found : List (List ℕ × List ℕ)) → IsWellFormed problem → AreHonest problem deeds → AreBalanced problem deeds
     → IsPermutation (languages_in deeds) found → IsSorted order (map (λ language. language.0) found) → IsTypology problem found
-gathered-languages problem deeds found w honest balanced members sorted = typology-collected problem deeds (AllClasses-well_formed problem w) honest balanced found members sorted
+gathered-languages problem deeds found w honest balanced members sorted = typology-collected problem deeds (IsSound-well_formed problem w) honest balanced found members sorted
 
 pub record AreCertified (problem : Problem) (named : List (List ℕ × ℕ)) (listed : List (List Term)) : Type 0 where
   pub cuts : named ≡ map (λ cut. (cut, certificate_named problem cut)) (cuts problem)
@@ -90,4 +90,4 @@ certified problem prefixes named listed e h =
 pub gathered-certified : (problem : Problem) (deeds : List Deed) (prefixes : List (List ℕ)) (named : List (List ℕ × ℕ)) (listed : List (List Term)) → IsWellFormed problem → AreHonest problem deeds → AreBalanced problem deeds
     → IsPermutation (cuts_in deeds) prefixes → IsSorted order prefixes → IsCertified problem prefixes named listed → AreCertified problem named listed
 gathered-certified problem deeds prefixes named listed w honest balanced members sorted h =
-    certified problem prefixes named listed (cuts-sorted problem deeds (AllClasses-well_formed problem w) honest balanced prefixes members sorted) h
+    certified problem prefixes named listed (cuts-sorted problem deeds (IsSound-well_formed problem w) honest balanced prefixes members sorted) h

@@ -126,3 +126,11 @@ all-named f n (cut ∷ cuts) (prefix ∷ prefixes) e h =
 pub cuts-named : (problem : Problem) (prefixes : List (List ℕ)) (cuts : List Cut) (certificates : List Contradiction) → IsCertified problem prefixes (cuts_of cuts) (certificates_of certificates) → AreNamed (length certificates) cuts
 cuts-named problem prefixes cuts certificates c =
     subst (λ (n : ℕ). AreNamed n cuts) (length-map certificates (λ (certificate : Contradiction). terms_in certificate.terms)) (all-named (first_refuting (certificates_of certificates)) (length (certificates_of certificates)) cuts prefixes c.named c.within)
+
+-- a certificate that is put behind the others, none of which refutes the prefix, is the first that does
+pub first-added : (certificates new : List Contradiction) (certificate : Contradiction) (prefix : List ℕ) (place : ℕ) → place ≡ length certificates → first_refuting (certificates_of certificates) prefix ≡ length certificates
+    → new ≡ certificates ++ certificate ∷ [] → refutes (terms_in certificate.terms) prefix ≡ true → place ≡ first_refuting (certificates_of new) prefix
+first-added certificates new certificate prefix place e none pushed here =
+    let long : length (certificates_of certificates) ≡ length certificates = length-map certificates (λ (d : Contradiction). terms_in d.terms) in
+    let whole : certificates_of new ≡ certificates_of certificates ++ terms_in certificate.terms ∷ [] = ap certificates_of pushed ∙ map-append (λ (d : Contradiction). terms_in d.terms) certificates (certificate ∷ []) in
+    e ∙ sym (ap (λ (l : List (List Term)). first_refuting l prefix) whole ∙ first-new (certificates_of certificates) (terms_in certificate.terms) prefix (none ∙ sym long) here ∙ long)

@@ -8,17 +8,16 @@ use Rattle.std.proofs.lemmas.List.Elements.{All-head, All-tail}
 use Rattle.std.proofs.lemmas.List.Folds.{list_any-append}
 use Rattle.ot_theory.specs.Rankings.{numbers_below, rankings}
 use Rattle.ot_theory.specs.Problems.{Input, Problem}
-use Rattle.ot_theory.specs.Languages.{choices, languages, classes_at, each_optimal, holds, refuted}
+use Rattle.ot_theory.specs.Languages.{choices, languages, classes_at, each_optimal, holds, keeps_givens, refuted}
 use Rattle.ot_theory.specs.Refutations.{prefixes, cuts, refutes}
-use Rattle.ot_theory.proofs.Optimal.{AllFit}
-use Rattle.ot_theory.proofs.Classes.{AllClasses}
+use Rattle.ot_theory.proofs.Optimal.{IsFitting}
 use Rattle.ot_theory.proofs.Certificates.{contradiction-refutes}
 use Rattle.ot_theory.proofs.Terms.{numbers_below-more}
 use Rattle.ot_theory.proofs.Strata.{any-range}
 use Rattle.search_deeds.specs.Deeds.{Deed, Fate, IsTrueOf, AreHonest, AreBalanced, children, times, opened_by, language_by, cut_by, opened_in, languages_in, cuts_in}
 use Rattle.search_deeds.specs.Deeds.Fate.{Opened, Language, Cut}
 use Rattle.search_deeds.proofs.Counts.{nothing, same, times-cons, times-append, times-filter, times-outside, times-within, same-push}
-use Rattle.search_deeds.proofs.Fitting.{fits, is_full, fits-push, fits-short, classes-within, AllFit-fits, times-prefixes, times-choices}
+use Rattle.search_deeds.proofs.Fitting.{fits, is_full, fits-push, fits-short, classes-within, AllFit-fits, times-prefixes, times-choices, IsSound}
 use Rattle.ot_theory.proofs.Candidates.{same-true}
 
 -- some proper prefix is refuted
@@ -49,7 +48,7 @@ pub refuted-take : (problem : Problem) (prefix : List ℕ) (k : ℕ) → refuted
 unfolding refuted
 refuted-take problem prefix k h =
     by (list_any (λ order. holds problem order prefix) (rankings problem.constraints)) (list_any (λ order. holds problem order (take k prefix)) (rankings problem.constraints)) h
-    (any-weaker (λ order. holds problem order prefix) (λ order. holds problem order (take k prefix)) (rankings problem.constraints) (λ order held. optimal-take order problem.inputs k prefix held))
+    (any-weaker (λ order. holds problem order prefix) (λ order. holds problem order (take k prefix)) (rankings problem.constraints) (λ order held. let parts = and_parts (keeps_givens problem order) (each_optimal order problem.inputs prefix) held in and_from _ _ parts.0 (optimal-take order problem.inputs k prefix parts.1)))
   where
     by : (a b : Bool) → not a ≡ false → (a ≡ true → b ≡ true) → not b ≡ false
     by true b h f = ap not (f refl)
@@ -211,7 +210,7 @@ language-holds problem p (deed ∷ deeds) h some = by deed.fate (All-head (IsTru
     ]
     by (Cut terms) t others some = others some
 
-cut-refuted : (problem : Problem) (p : List ℕ) (deeds : List Deed) → AreHonest problem deeds → AllFit problem.constraints problem.inputs p → 0 < times p (cuts_in deeds) → refuted problem p ≡ true
+cut-refuted : (problem : Problem) (p : List ℕ) (deeds : List Deed) → AreHonest problem deeds → IsFitting problem p → 0 < times p (cuts_in deeds) → refuted problem p ≡ true
 cut-refuted problem p [] h f some = absurd (omega arith)
 cut-refuted problem p (deed ∷ deeds) h f some = by deed.fate (All-head (IsTrueDeed problem) deed deeds h) (λ more. cut-refuted problem p deeds (All-tail (IsTrueDeed problem) deed deeds h) f more) some
   where
@@ -263,13 +262,13 @@ full-not-short m n h = elim (eqb_tells m n) [
   | inr other ↦ other.0 ∙ ap not (sym (lt-ltb m n (omega (arith, other.1))))
 ]
 
-Told-shares : (problem : Problem) (deeds : List Deed) (p : List ℕ) → AllClasses problem.constraints problem.inputs → AreHonest problem deeds → times p (map (λ deed. deed.prefix) deeds) ≡ cond (is_reached problem p) 1 0 → Told problem deeds p
+Told-shares : (problem : Problem) (deeds : List Deed) (p : List ℕ) → IsSound problem → AreHonest problem deeds → times p (map (λ deed. deed.prefix) deeds) ≡ cond (is_reached problem p) 1 0 → Told problem deeds p
 Told-shares problem deeds p classes honest once =
     let s = shares (times p (opened_in deeds)) (times p (choices_collected deeds)) (times p (cuts_in deeds)) (is_reached problem p) (refuted problem p) (nat_lt (length p) (length problem.inputs)) (is_full problem.inputs p)
     (sym (by_fate p deeds) ∙ once)
     (λ some. let t = opened-holds problem p deeds honest some in (t.0, lt-ltb _ _ t.1))
     (λ some. let t = language-holds problem p deeds honest some in (t.0, full (t.1)))
-    (λ reached some. cut-refuted problem p deeds honest (AllFit-fits problem.constraints problem.inputs p classes (and_parts _ _ reached).0) some)
+    (λ reached some. cut-refuted problem p deeds honest (record { classes = AllFit-fits problem.constraints problem.inputs p classes.classes (and_parts _ _ reached).0; pairs = classes.pairs }) some)
     (λ reached. full-not-short (length p) (length problem.inputs) (fits-short problem.inputs p (and_parts _ _ reached).0)) in
     record { opened = s.opened; language = s.language; cut = s.cut }
   where
@@ -280,7 +279,7 @@ Told-shares problem deeds p classes honest once =
     ]
 
 -- There is one deed of each prefix that is reached, and none of any other.
-once : (problem : Problem) (deeds : List Deed) → AllClasses problem.constraints problem.inputs → AreHonest problem deeds → AreBalanced problem deeds
+once : (problem : Problem) (deeds : List Deed) → IsSound problem → AreHonest problem deeds → AreBalanced problem deeds
     → (n : ℕ) (p : List ℕ) → length p ≡ n → times p (map (λ deed. deed.prefix) deeds) ≡ cond (is_reached problem p) 1 0
 once problem deeds classes honest balanced zero [] e =
     balanced [] ∙ times-cons [] [] (flat_map (children problem) (opened_in deeds)) ∙ ap (λ n. 1 + n) (children-none problem (opened_in deeds))
@@ -320,11 +319,11 @@ once problem deeds classes honest balanced (suc n) p e =
         ∙ ap (λ c. cond (c && not (is_behind_cut problem q || refuted problem q)) 1 0) (sym (fits-push problem.inputs q a))
         ∙ ap (λ c. cond (fits problem.inputs (q ++ a ∷ []) && not c) 1 0) (sym (behind-push problem q a))
 
-pub Told-balanced : (problem : Problem) (deeds : List Deed) → AllClasses problem.constraints problem.inputs → AreHonest problem deeds → AreBalanced problem deeds → (p : List ℕ) → Told problem deeds p
+pub Told-balanced : (problem : Problem) (deeds : List Deed) → IsSound problem → AreHonest problem deeds → AreBalanced problem deeds → (p : List ℕ) → Told problem deeds p
 Told-balanced problem deeds classes honest balanced p = Told-shares problem deeds p classes honest (once problem deeds classes honest balanced (length p) p refl)
 
 -- Of honest and balanced deeds the languages are those of the problem, each once.
-pub languages-collected : (problem : Problem) (deeds : List Deed) → AllClasses problem.constraints problem.inputs → AreHonest problem deeds → AreBalanced problem deeds
+pub languages-collected : (problem : Problem) (deeds : List Deed) → IsSound problem → AreHonest problem deeds → AreBalanced problem deeds
     → (p : List ℕ) → times p (map (λ language. language.0) (languages_in deeds)) ≡ times p (languages problem)
 unfolding languages
 languages-collected problem deeds classes honest balanced p =
@@ -342,7 +341,7 @@ languages-collected problem deeds classes honest balanced p =
     by false behind false full h = refl
 
 -- Of honest and balanced deeds the prefixes cut off are the cuts of the problem, each once.
-pub cuts-collected : (problem : Problem) (deeds : List Deed) → AllClasses problem.constraints problem.inputs → AreHonest problem deeds → AreBalanced problem deeds
+pub cuts-collected : (problem : Problem) (deeds : List Deed) → IsSound problem → AreHonest problem deeds → AreBalanced problem deeds
     → (p : List ℕ) → times p (cuts_in deeds) ≡ times p (cuts problem)
 unfolding cuts
 cuts-collected problem deeds classes honest balanced p =

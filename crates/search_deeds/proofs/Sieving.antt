@@ -5,9 +5,9 @@ use Rattle.std.proofs.lemmas.Bool.{and_parts, cases_lt}
 use Rattle.std.proofs.lemmas.List.{get_or_append_left, get_or_at, length_push, take_more}
 use Rattle.std.proofs.lemmas.List.Elements.{All-nil, All-cons}
 use Rattle.std.proofs.lemmas.Nat.Bits.{bit_at_or, bit_at-zero, same_from_bits}
-use Rattle.ot_theory.specs.Languages.{Term}
+use Rattle.ot_theory.specs.Languages.{Term, Loser, Given}
 use Rattle.ot_theory.specs.Refutations.{refutes}
-use Rattle.search_deeds.specs.Sieved.{choice_bit, AreAmong, HasBits, IsMarkOf, AreMarks, IsSieve}
+use Rattle.search_deeds.specs.Sieved.{asked_bit, choice_bit, AreAmong, HasBits, IsMarkOf, AreMarks, IsSieve}
 use Rattle.search_deeds.proofs.Choices.{is_made, made_at, nothing}
 
 -- ---- words among others
@@ -47,24 +47,26 @@ HasBits-more prefix bits bit i a d below here e h long = rw (take_more prefix i 
 pub IsMarkOf-none : IsMarkOf [] 0
 IsMarkOf-none = record { least = λ bits all. among-none bits }
 
-pub IsMarkOf-more : (terms : List Term) (mark bit k : ℕ) (term : Term) → k < length terms → get_or terms k nothing ≡ term → bit ≡ choice_bit term.input term.winner → IsMarkOf (take k terms) mark → IsMarkOf (take (k + 1) terms) (bit_or mark bit)
+pub IsMarkOf-more : (terms : List Term) (mark bit k : ℕ) (term : Term) → k < length terms → get_or terms k nothing ≡ term → bit ≡ asked_bit term → IsMarkOf (take k terms) mark → IsMarkOf (take (k + 1) terms) (bit_or mark bit)
 IsMarkOf-more terms mark bit k term below here e h = record {
   least = λ bits all.
       let front : List Term = take k terms in
       let more : take (k + 1) terms ≡ front ++ term ∷ [] = take_more terms k nothing below ∙ ap (λ (t : Term). front ++ t ∷ []) here in
-      let those : All (λ t. AreAmong (choice_bit t.input t.winner) bits) (front ++ term ∷ []) = rw more at all in
+      let those : All (λ t. AreAmong (asked_bit t) bits) (front ++ term ∷ []) = rw more at all in
       among-both mark bit bits
       (h.least bits (λ j d b. rw (get_or_append_left front (term ∷ []) d j b) at (those j d (omega (arith, length_push front term)))))
       (rw (get_or_at front term [] nothing (length front) refl, ← e) at (those (length front) nothing (omega (arith, length_push front term))));
 }
 
-made-bits : (prefix : List ℕ) (bits : ℕ) (terms : List Term) → HasBits prefix bits → refutes terms prefix ≡ true → All (λ term. AreAmong (choice_bit term.input term.winner) bits) terms
-made-bits prefix bits [] has h = All-nil (λ term. AreAmong (choice_bit term.input term.winner) bits)
+made-bits : (prefix : List ℕ) (bits : ℕ) (terms : List Term) → HasBits prefix bits → refutes terms prefix ≡ true → All (λ term. AreAmong (asked_bit term) bits) terms
+made-bits prefix bits [] has h = All-nil (λ term. AreAmong (asked_bit term) bits)
 made-bits prefix bits (t ∷ terms) has h =
     let parts = and_parts (is_made prefix t) (refutes terms prefix) h in
-    let at = made_at prefix t.input t.winner parts.0 in
-    All-cons (λ term. AreAmong (choice_bit term.input term.winner) bits) t terms
-    (subst (λ (a : ℕ). AreAmong (choice_bit t.input a) bits) at.1 (has.each t.input at.0)) (made-bits prefix bits terms has parts.1)
+    All-cons (λ term. AreAmong (asked_bit term) bits) t terms (here t parts.0) (made-bits prefix bits terms has parts.1)
+  where
+    here : (t : Term) → is_made prefix t ≡ true → AreAmong (asked_bit t) bits
+    here (Loser i a b) made = let at = made_at prefix i a made in subst (λ (c : ℕ). AreAmong (choice_bit i c) bits) at.1 (has.each i at.0)
+    here (Given k) made = among-none bits
 
 -- ---- the words beside the places of certificates
 pub IsSieve-marks : (certificates : List (List Term)) (prefix places marks : List ℕ) (bits : ℕ) → AreMarks certificates places marks → HasBits prefix bits → IsSieve certificates prefix places marks bits

@@ -1,7 +1,7 @@
 -- The bits of choices: those of a certificate that refutes a prefix are among those of the prefix.
 use Rattle.std.specs.Prelude.{◌≡◌, ℕ, ◌+◌, ◌*◌, ◌%◌, ◌^◌, ◌<◌, ◌≤◌, true, List, [], length, slice_index, slice_index_or, bit_or, All}
 use Rattle.std.specs.Int.{bit_at}
-use Rattle.ot_theory.specs.Languages.{Term}
+use Rattle.ot_theory.specs.Languages.{Term, Loser, Given}
 use Rattle.ot_theory.specs.Refutations.{refutes}
 
 -- the bit of a class of an input: one of 64, which other choices may have too
@@ -16,9 +16,14 @@ pub record AreAmong (few many : ℕ) : Type 0 where
 pub record HasBits (prefix : List ℕ) (bits : ℕ) : Type 0 where
   pub each : (i : ℕ) → i < length prefix → AreAmong (choice_bit i (slice_index prefix i)) bits
 
+-- the bit of the choice that a term asks for, and none of a given pair
+abbrev pub asked_bit : Term → ℕ
+asked_bit (Loser i a b) = choice_bit i a
+asked_bit (Given k) = 0
+
 -- The word has no bits but those of the choices that the terms ask for.
 pub record IsMarkOf (terms : List Term) (mark : ℕ) : Type 0 where
-  pub least : (bits : ℕ) → All (λ term. AreAmong (choice_bit term.input term.winner) bits) terms → AreAmong mark bits
+  pub least : (bits : ℕ) → All (λ term. AreAmong (asked_bit term) bits) terms → AreAmong mark bits
 
 -- such a word for each of the certificates at these places
 pub record AreMarks (certificates : List (List Term)) (places marks : List ℕ) : Type 0 where

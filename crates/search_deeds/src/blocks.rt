@@ -8,9 +8,9 @@
 ghost use Rattle.std.specs.Prelude.{◌≡◌, ◌≤◌, ◌<◌, ◌+◌, ◌*◌, ◌/◌, ◌%◌, ℕ, List, [], true, length, slice_index, All, OnOk, IfSome};
 ghost use Rattle.std.specs.Int.{bit_at};
 ghost use Rattle.ot_theory.specs.Refutations.{refutes};
-ghost use Rattle.refutation.specs.Prefixes.{class_numbers};
+ghost use Rattle.refutation.specs.Prefixes.{class_numbers, is_made};
 ghost use Rattle.refutation.specs.Asked.{Begins};
-ghost use Rattle.refutation.specs.Terms.{terms_in};
+ghost use Rattle.refutation.specs.Terms.{term_of, terms_in};
 ghost use Rattle.search_deeds.specs.Admitted.{IsAdmitted, IsAdmittedAt, IsAdmittedBy};
 
 use erc_vectors::NoMemory;
@@ -74,7 +74,7 @@ impl Blocks {
         self.blocks.as_slice()
     }
 
-    /// Adds a certificate behind so many others. It has these terms, the last of which are of this input.
+    /// Adds a certificate behind so many others. It has these terms, the last of which are of this input, if any is of one.
     pub(crate) fn add(&mut self, count: usize, terms: &[Term], last: usize) -> Result<(), NoMemory>
         requires { count ≤ length self.old * 64 }
         ensures room { OnOk result (count + 1 ≤ length self.new * 64) }
@@ -116,7 +116,9 @@ impl Block {
         ensures others { OnOk result ((prefix : List ℕ) (b : ℕ) → IsAdmitted self.old prefix b → IsAdmitted self.new prefix b) }
     {
         for term in terms {
-            self.add_row(term.input, last)?;
+            if let Term::Loser { input, .. } = *term {
+                self.add_row(input, last)?;
+            }
         }
         self.present = with_bit(self.present, bit, true);
         admit(self.rows.as_mut_slice(), bit, terms);
@@ -205,11 +207,23 @@ fn winner_at(terms: &[Term], input: InId) -> Option<ClassId>
     ensures { IfSome result (λ winner. (prefix : List ℕ) → refutes (terms_in terms.now) prefix ≡ true → (input.0 < length prefix) × (slice_index prefix input.0 ≡ winner.0)) }
 {
     for term in terms {
-        if term.input == input {
-            return Some(term.winner);
+        if let Some(winner) = winner_by(term, input) {
+            return Some(winner);
         }
     }
     None
+}
+
+/// The winner that a term gives to an input.
+fn winner_by(term: &Term, input: InId) -> Option<ClassId>
+    ensures { IfSome result (λ winner. (prefix : List ℕ) → is_made prefix (term_of term.now) ≡ true → (input.0 < length prefix) × (slice_index prefix input.0 ≡ winner.0)) }
+{
+    match *term {
+        Term::Loser {
+            input: own, winner, ..
+        } if own == input => Some(winner),
+        _ => None,
+    }
 }
 
 /// Whether a class takes this word. Where there is none, any class may be meant.

@@ -91,7 +91,6 @@ fn name_certificate(
 }
 
 /// The place of the first contradiction that refutes a prefix. Those that do are at these places, of which these are the blocks.
-#[tactic(auto, using(crate::proofs::Passing::none_yet))]
 pub fn place_of(
     certificates: &[Contradiction],
     places: &[usize],

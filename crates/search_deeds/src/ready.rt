@@ -1,4 +1,4 @@
-//! What the classes of the inputs ask of a ranking, each made when it is first wanted.
+//! What the given pairs ask of a ranking, made at the start, and what the classes of the inputs ask, each made when it is first wanted.
 
 ghost use Rattle.std.specs.Prelude.{◌≡◌, ◌<◌, ◌++◌, List, length, true, IfOk, OnOk, IfSome};
 ghost use Rattle.ot_theory.specs.Problems as problems;
@@ -14,7 +14,7 @@ ghost use Rattle.search_deeds.specs.Made.{AreMade};
 use crate::index::widest;
 use erc_vectors::NoMemory;
 use ot_base::{ClassId, InId};
-use refutation::{Asked, Contradiction, core_of_conditions};
+use refutation::{Asked, Contradiction, asked_of, core_of_conditions};
 use std::alloc::Global;
 use violation_profiles::Problem;
 
@@ -29,15 +29,16 @@ pub(crate) struct Entry {
     pub(crate) asked: Asked,
 }
 
-/// What the classes of the inputs ask, as far as it is made: a place for each class of each input.
+/// What the given pairs ask, and what the classes of the inputs ask, as far as it is made: a place for each class of each input.
 #[derive(Debug, Drop)]
 pub struct Ready {
+    pub givens: Asked,
     widest: u16,
     entries: Vec<Option<Entry>>,
 }
 
 impl Ready {
-    /// Before any is made.
+    /// Before any class is wanted.
     pub fn new(alloc: Global, p: &Problem) -> Result<Ready, NoMemory>
         ensures { IfOk result (AreMade p.now) }
     {
@@ -47,6 +48,7 @@ impl Ready {
             entries.push(None)?;
         }
         Ok(Ready {
+            givens: asked_of(alloc, p, &[])?,
             widest: widest as u16,
             entries,
         })
@@ -111,7 +113,7 @@ impl Ready {
         }
     }
 
-    /// What the classes of a prefix of the problem ask, without what earlier ones imply.
+    /// What the given pairs and the classes of a prefix of the problem ask, without what earlier ones imply.
     pub fn asked_by(
         &mut self,
         alloc: Global,
@@ -128,6 +130,7 @@ impl Ready {
             terms: Vec::with_capacity(alloc, ROOM)?,
             conditions: Vec::with_capacity(alloc, ROOM)?,
         };
+        asked.append(&self.givens)?;
         for (i, class) in prefix.iter().enumerate() {
             self.add_needed(alloc, p, InId(i as u32), *class, &mut asked)?;
         }

@@ -6,8 +6,8 @@
 
 ghost use Rattle.std.specs.Prelude.{◌≡◌, ◌≢◌, ◌≤◌, ◌<◌, ◌+◌, ℕ, List, ◌∷◌, [], ◌++◌, bit_or, length, slice_index};
 ghost use Rattle.refutation.specs.Prefixes.{class_numbers};
-ghost use Rattle.refutation.specs.Terms.{terms_in};
-ghost use Rattle.search_deeds.specs.Sieved.{choice_bit, HasBits, IsMarkOf};
+ghost use Rattle.refutation.specs.Terms.{term_of, terms_in};
+ghost use Rattle.search_deeds.specs.Sieved.{asked_bit, choice_bit, HasBits, IsMarkOf};
 
 use ot_base::{ClassId, InId};
 use refutation::Term;
@@ -29,9 +29,19 @@ pub fn mark_of(terms: &[Term]) -> u64
 {
     let mut mark = 0;
     for term in terms {
-        mark |= bit_of(term.input.0 as usize, term.winner);
+        mark |= bit_asked(term);
     }
     mark
+}
+
+/// The bit of the choice that a term asks for, and none of a given pair.
+fn bit_asked(term: &Term) -> u64
+    ensures { result ≡ asked_bit (term_of term.now) }
+{
+    match *term {
+        Term::Loser { input, winner, .. } => bit_of(input.0 as usize, winner),
+        Term::Given(_) => 0,
+    }
 }
 
 /// The bit of a class of an input. The bits of inputs that follow one another begin far apart, so that few classes share one.

@@ -8,7 +8,7 @@ use Rattle.refutation.specs.declared.contradiction.Contradiction.{Contradiction}
 use Rattle.refutation.specs.Terms.{terms_in}
 use Rattle.refutation.specs.Typologies.{certificates_of}
 use Rattle.refutation.specs.Prefixes.{class_numbers}
-use Rattle.search_deeds.proofs.Named.{listed-new, listed-old}
+use Rattle.search_deeds.proofs.Named.{first-added, listed-new, listed-old}
 use Rattle.search_deeds.proofs.Admitting.{HaveRoom-blocked}
 use Rattle.search_deeds.proofs.certified.name_certificate.Goals as goal
 
@@ -20,6 +20,11 @@ pub returns-clause-listed : goal.returns-clause-listed
 returns-clause-listed c =
     listed-new c.args.p.now c.args.certificates.now c.as_slice.result.now c.push.new.self c.in_ok-certificate.certificate c.args.prefix.now (class_numbers c.as_slice-classes.result.now)
     c.as_slice.ensures c.as_slice-classes.ensures c.in_default.ensures.none c.in_ok-certificate.ensures.certificate c.in_ok-push.ensures.ok
+
+pub returns-clause-first : goal.returns-clause-first
+returns-clause-first c =
+    first-added c.args.certificates.now c.push.new.self c.in_ok-certificate.certificate c.args.prefix.now c.len-place.result c.len-place.ensures
+    (rw (c.as_slice.ensures, c.as_slice-classes.ensures) at c.in_default.ensures.none) c.in_ok-push.ensures.ok (rw c.as_slice-classes.ensures at c.in_ok-certificate.ensures.refutes)
 
 pub place_of-requires-clause-refuting : goal.place_of-requires-clause-refuting
 place_of-requires-clause-refuting c =

@@ -7,12 +7,18 @@ use Rattle.refutation.specs.declared.contradiction.Contradiction.{Contradiction}
 use Rattle.refutation.specs.Prefixes.{class_numbers}
 use Rattle.refutation.specs.Typologies.{certificates_of}
 use Rattle.search_deeds.proofs.Choices.{certificate-at, first-found, first-none}
-use Rattle.search_deeds.proofs.Passing.{NoneRefutes-one, NoneRefutes-passed}
+use Rattle.search_deeds.proofs.Passing.{none_yet, NoneRefutes-one, NoneRefutes-passed}
 use Rattle.search_deeds.proofs.certified.place_of.Goals as goal
 
 told : (certificates : List Contradiction) (prefix : List ℕ) (place : ℕ) (it : Contradiction) (answer : Bool) → place < length certificates → it ≡ get_or certificates place it → answer ≡ refutes (terms_in it.terms) prefix → refutes (get_or (certificates_of certificates) place []) prefix ≡ answer
 told certificates prefix place it answer within is e =
     ap (λ (terms : List Term). refutes terms prefix) (certificate-at certificates place it within ∙ ap (λ (d : Contradiction). terms_in d.terms) (sym is)) ∙ sym e
+
+pub loop-k-init : goal.loop-k-init
+loop-k-init c =
+    NoneRefutes-passed (certificates_of c.args.certificates.now) (class_numbers c.args.prefix.now) c.args.places.now c.args.blocks.now 0 c.next_admitted-k.result c.requires.blocked
+    c.next_admitted-k.ensures.onward c.next_admitted-k.ensures.within c.next_admitted-k.ensures.passed
+    (none_yet (certificates_of c.args.certificates.now) (class_numbers c.args.prefix.now) c.args.places.now)
 
 pub returns-then-refutes-clause-some : goal.returns-then-refutes-clause-some
 returns-then-refutes-clause-some c =

@@ -11,7 +11,7 @@ loop-term-init c = IsMarkOf-none
 pub loop-term-preserved : goal.loop-term-preserved
 loop-term-preserved c =
     let k = c.loop-term.term-index in
-    IsMarkOf-more (terms_in c.args.terms.now) c.loop-term.mark c.bit_of-mark.result k (term_of (get_or c.args.terms.now k no_term)) (omega (arith, c.loop-term-test.true, length-map c.args.terms.now term_of)) (term-at c.args.terms.now k c.loop-term-test.true) c.bit_of-mark.ensures c.loop-term.invariant
+    IsMarkOf-more (terms_in c.args.terms.now) c.loop-term.mark c.bit_asked-mark.result k (term_of (get_or c.args.terms.now k no_term)) (omega (arith, c.loop-term-test.true, length-map c.args.terms.now term_of)) (term-at c.args.terms.now k c.loop-term-test.true) c.bit_asked-mark.ensures c.loop-term.invariant
 
 pub returns : goal.returns
 returns c = rw (take_all c.loop-term.term-index (terms_in c.args.terms.now) (omega (arith, length-map c.args.terms.now term_of))) at c.loop-term.invariant

@@ -4,12 +4,16 @@ use Rattle.std.proofs.lemmas.List.{with_items_is}
 use Rattle.search_deeds.specs.Admitted.{IsAdmittedBy}
 use Rattle.search_deeds.proofs.Admitting.{Widens-same, Widens-twice}
 use Rattle.search_deeds.proofs.blocks.Block.add.Goals as goal
+use Rattle.search_deeds.proofs.blocks.Block.add.Goals.{in-Loser+in_ok-add_row, in_default}
 
 pub loop-term-init : goal.loop-term-init
 loop-term-init c = Widens-same c.args.self.now
 
 pub loop-term-preserved : goal.loop-term-preserved
-loop-term-preserved c = Widens-twice c.args.self.now c.loop-term.self c.add_row.new.self c.loop-term.invariant c.in_ok-add_row.ensures
+loop-term-preserved c = elim c.match-term.branch [
+  | in-Loser+in_ok-add_row w ↦ rw w.self-is (Widens-twice c.args.self.now c.loop-term.self w.add_row.new.self c.loop-term.invariant w.in_ok-add_row.ensures)
+  | in_default w ↦ rw w.self-is c.loop-term.invariant
+]
 
 pub returns-clause-others : goal.returns-clause-others
 returns-clause-others c = λ prefix b h.

@@ -2,59 +2,38 @@ use Rattle.std.proofs.Common.{◌≡◌, ◌<◌, ◌+◌, ◌*◌, ℕ, List, a
 use Rattle.std.specs.Prelude.{slice_index_or}
 use Rattle.std.proofs.lemmas.List.{length-map, get_or_read}
 use Rattle.std.proofs.lemmas.Result.{on_ok_weaker}
-use Rattle.ot_theory.specs.Problems.{Problem}
-use Rattle.ot_theory.specs.Languages.{Term}
-use Rattle.ot_theory.specs.Refutations.{is_contradiction}
-use Rattle.refutation.specs.Terms.{term_of, terms_in}
-use Rattle.search_deeds.specs.Indexed.{is_last, IsLaidOut}
+use Rattle.refutation.specs.Terms.{terms_in}
 use Rattle.search_deeds.specs.declared.blocks.Block.{Block}
 use Rattle.search_deeds.proofs.Admitting.{AreBlocked-push, IsAddedTo}
-use Rattle.search_deeds.proofs.Choices.{some-term, last-within, place-within, IsIndex-push}
+use Rattle.search_deeds.proofs.Choices.{IsIndex-push}
 use Rattle.search_deeds.proofs.index.Index.add.Goals as goal
 
--- the bucket of a contradiction is one of those that are laid out
-bucket-within : (problem : Problem) (widest : ℕ) (places : List (List ℕ)) (terms : List Term) (i a : ℕ) → is_contradiction problem terms ≡ true → is_last terms i a ≡ true → IsLaidOut problem widest places → i * widest + a < length places
-bucket-within problem widest places terms i a genuine last laid =
-    let w = last-within problem terms i a genuine last in
-    omega (arith, place-within (length problem.inputs) widest i a w.0 (omega (arith, w.1, laid.wide i w.0)), laid.long)
-
-pub last_choice-input-requires : goal.last_choice-input-requires
-last_choice-input-requires c = omega (arith, some-term _ _ c.requires.genuine, length-map c.args.terms.now term_of)
-
 pub index-requires : goal.index-requires
-index-requires c = omega (arith, bucket-within c.args.p.now c.args.self.now.widest c.args.self.now.places.items _ _ _ c.requires.genuine c.last_choice-input.ensures c.requires.laid_out, c.args.self.now.places.ok.0)
-
-pub overflow_mul-bucket : goal.overflow_mul-bucket
-overflow_mul-bucket c = record { fits = omega (arith, bucket-within c.args.p.now c.args.self.now.widest c.args.self.now.places.items _ _ _ c.requires.genuine c.last_choice-input.ensures c.requires.laid_out, c.args.self.now.places.ok.0, c.args.self.now.places.small) }
-
-pub overflow_add-bucket : goal.overflow_add-bucket
-overflow_add-bucket c = record { fits = omega (arith, bucket-within c.args.p.now c.args.self.now.widest c.args.self.now.places.items _ _ _ c.requires.genuine c.last_choice-input.ensures c.requires.laid_out, c.args.self.now.places.ok.0, c.args.self.now.places.small) }
+index-requires c = omega (arith, c.bucket_of-bucket.ensures.within, c.args.self.now.places.ok.0)
 
 pub index_mut-requires : goal.index_mut-requires
-index_mut-requires c = omega (arith, bucket-within c.args.p.now c.args.self.now.widest c.args.self.now.places.items _ _ _ c.requires.genuine c.last_choice-input.ensures c.requires.laid_out, c.requires.room.long, c.args.self.now.places.ok.0, c.args.self.now.blocks.ok.0)
+index_mut-requires c = omega (arith, c.bucket_of-bucket.ensures.within, c.requires.room.long, c.args.self.now.blocks.ok.0)
 
 pub add-requires : goal.add-requires
 add-requires c =
     let places = c.args.self.now.places.items in
     let blocks = c.args.self.now.blocks.items in
-    let b = c.last_choice-input.result.0 * c.args.self.now.widest + c.last_choice-input.result.1 in
-    let within = bucket-within c.args.p.now c.args.self.now.widest places _ _ _ c.requires.genuine c.last_choice-input.ensures c.requires.laid_out in
+    let b = c.bucket_of-bucket.result in
+    let within = c.bucket_of-bucket.ensures.within in
     let count_is : c.len-count.result ≡ length (slice_index_or places b []) = c.len-count.ensures ∙ ap (λ (l : List ℕ). length l) (get_or_read places _ c.index.result.now within c.index.ensures []) in
     let old_is : length c.index_mut.result.now ≡ length (slice_index_or blocks b []) = ap (λ (l : List Block). length l) (get_or_read blocks _ c.index_mut.result.now (omega (arith, within, c.requires.room.long)) c.index_mut.ensures.value []) in
     omega (arith, count_is, old_is, c.requires.room.each b)
 
 pub index_mut-requires-2 : goal.index_mut-requires-2
-index_mut-requires-2 c = omega (arith, bucket-within c.args.p.now c.args.self.now.widest c.args.self.now.places.items _ _ _ c.requires.genuine c.last_choice-input.ensures c.requires.laid_out, c.args.self.now.places.ok.0)
+index_mut-requires-2 c = omega (arith, c.bucket_of-bucket.ensures.within, c.args.self.now.places.ok.0)
 
 pub returns-clause-places : goal.returns-clause-places
 returns-clause-places c =
     let places = c.args.self.now.places.items in
-    let i = c.last_choice-input.result.0 in
-    let a = c.last_choice-input.result.1 in
-    let b = i * c.args.self.now.widest + a in
-    let within = bucket-within c.args.p.now c.args.self.now.widest places _ i a c.requires.genuine c.last_choice-input.ensures c.requires.laid_out in
+    let b = c.bucket_of-bucket.result in
+    let within = c.bucket_of-bucket.ensures.within in
     on_ok_weaker c.push.result (λ e certificates count index.
-    IsIndex-push c.args.p.now certificates c.args.self.now.widest places _ (terms_in c.args.terms.now) i a index c.requires.genuine c.last_choice-input.ensures within
+    IsIndex-push c.args.p.now certificates c.args.self.now.widest places _ (terms_in c.args.terms.now) b index c.bucket_of-bucket.ensures.bucket within
     (ap (set places b) (e ∙ rw (get_or_read places _ c.index_mut-2.result.now within c.index_mut-2.ensures.value [], count) refl))) c.push.ensures.ok
 
 pub returns-clause-blocked : goal.returns-clause-blocked
@@ -62,8 +41,8 @@ returns-clause-blocked c =
     let terms = terms_in c.args.terms.now in
     let places = c.args.self.now.places.items in
     let blocks = c.args.self.now.blocks.items in
-    let b = c.last_choice-input.result.0 * c.args.self.now.widest + c.last_choice-input.result.1 in
-    let within = bucket-within c.args.p.now c.args.self.now.widest places _ _ _ c.requires.genuine c.last_choice-input.ensures c.requires.laid_out in
+    let b = c.bucket_of-bucket.result in
+    let within = c.bucket_of-bucket.ensures.within in
     let count_is : c.len-count.result ≡ length (slice_index_or places b []) = c.len-count.ensures ∙ ap (λ (l : List ℕ). length l) (get_or_read places _ c.index.result.now within c.index.ensures []) in
     let old_is : c.index_mut.result.now ≡ slice_index_or blocks b [] = get_or_read blocks _ c.index_mut.result.now (omega (arith, within, c.requires.room.long)) c.index_mut.ensures.value [] in
     let added : IsAddedTo terms c.len-count.result c.index_mut.result.now c.add.new.self = record { room = c.in_ok-add.ensures.room; own = c.in_ok-add.ensures.own; others = c.in_ok-add.ensures.others } in

@@ -1,7 +1,15 @@
--- Each class adds what it asks.
-use Rattle.std.proofs.Common.{arith}
+-- What the given pairs ask stands at the front, and each class adds what it asks.
+use Rattle.std.proofs.Common.{[], arith}
+use Rattle.ot_theory.specs.Languages.{terms_of}
+use Rattle.refutation.proofs.Implied.{asked-nothing}
 use Rattle.refutation.proofs.Asking.{asked-more, asked-prefix}
 use Rattle.search_deeds.proofs.ready.Ready.asked_by.Goals as goal
+
+pub loop-i-init : goal.loop-i-init
+loop-i-init c = record {
+  asked = c.in_ok-append.ensures.asked c.args.p.now [] (terms_of c.args.p.now []) (rw (c.in_ok-with_capacity.ensures.items, c.in_ok-with_capacity-2.ensures.items) (asked-nothing c.args.p.now)) c.requires.made.givens;
+  made = c.requires.made;
+}
 
 pub loop-i-preserved : goal.loop-i-preserved
 loop-i-preserved c = record {
