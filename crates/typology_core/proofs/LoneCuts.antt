@@ -1,8 +1,8 @@
 -- The cuts of a problem: a certificate refutes those of its own length alone, and each names the first that refutes it.
 use Rattle.std.proofs.Common.{◌≡◌, ℕ, zero, suc, ◌+◌, ◌<◌, ◌≤◌, List, [], ◌∷◌, ◌++◌, Bool, true, false, not, ◌&&◌, ◌||◌, ◌==◌, arith, refl, sym, ◌∙◌, ap, cond, inl, inr, length, take, get_or, slice_index, fold}
-use Rattle.std.specs.Prelude.{All, nat_le, nat_lt}
+use Rattle.std.specs.Prelude.{All, nat_lt}
 use Rattle.std.specs.List.{list_all, list_any, position_or_len}
-use Rattle.std.proofs.lemmas.Bool.{and_parts, cases_Bool, eq-eqb, eqb-true, leb-true, or_cases}
+use Rattle.std.proofs.lemmas.Bool.{and_parts, cases_Bool, eq-eqb, eqb-true, leb-true}
 use Rattle.std.proofs.lemmas.List.{map-append}
 use Rattle.std.proofs.lemmas.List.Elements.{All-append, All-cons, All-head, All-nil, All-tail}
 use Rattle.ot_theory.specs.Problems.{Problem}
@@ -14,9 +14,9 @@ use Rattle.ot_theory.proofs.Strata.{range-any}
 use Rattle.violation_profiles.specs.WellFormed.{IsWellFormed}
 use Rattle.violation_profiles.proofs.Inputs.{AllFit-prefix}
 use Rattle.refutation.proofs.TermsOfPrefixes.{certificate-refutes, made-one, terms_of-genuine, terms_of-made}
-use Rattle.search_deeds.specs.Indexed.{is_last}
+use Rattle.search_deeds.specs.Indexed.{is_last, is_up_to}
 use Rattle.search_deeds.proofs.Ascending.{times-first}
-use Rattle.search_deeds.proofs.Choices.{gives, is_made, last-refuting, some-term}
+use Rattle.search_deeds.proofs.Choices.{giving, gives, last-refuting}
 use Rattle.search_deeds.specs.Deeds.{times}
 use Rattle.search_deeds.proofs.Counts.{times-cons, times-filter}
 use Rattle.search_deeds.proofs.Fitting.{fits, times-prefixes}
@@ -72,32 +72,21 @@ genuine : (problem : Problem) (y : List ℕ) → IsWellFormed problem → IsRefu
 genuine problem y well h =
     certificate-contradiction problem (terms_of problem y) (terms_of-genuine problem y h.prefix) (made-one y (terms_of problem y) (terms_of-made problem y)) (sym (refuted-conditions problem y (AllFit-prefix problem y well h.prefix)) ∙ h.hopeless)
 
-none-made : (terms : List Term) → 0 < length terms → refutes terms [] ≡ true → ⊥
-none-made [] some h = omega (arith, some)
-none-made (t ∷ terms) some h = let no : false ≡ true = (and_parts (is_made [] t) (refutes terms []) h).0 in cc
-
-not-later : (terms : List Term) (k a j : ℕ) → list_any (gives k a) terms ≡ true → list_all (λ t. nat_le t.input j) terms ≡ true → k ≤ j
-not-later [] k a j some all = absurd (let no : false ≡ true = some in cc)
-not-later (t ∷ terms) k a j some all =
-    let parts = and_parts (nat_le t.input j) (list_all (λ t. nat_le t.input j) terms) all in
-    elim (or_cases (gives k a t) (list_any (gives k a) terms) some) [
-      | inl here ↦ omega (arith, eqb-true t.input k (and_parts (t.input == k) (t.winner == a) here).0, leb-true t.input j parts.0)
-      | inr later ↦ not-later terms k a j later parts.1
-    ]
-
 last-unique : (terms : List Term) (k a j b : ℕ) → is_last terms k a ≡ true → is_last terms j b ≡ true → k ≡ j
 last-unique terms k a j b h g =
-    let one = and_parts (list_any (gives k a) terms) (list_all (λ t. nat_le t.input k) terms) h in
-    let two = and_parts (list_any (gives j b) terms) (list_all (λ t. nat_le t.input j) terms) g in
-    omega (arith, not-later terms k a j one.0 two.1, not-later terms j b k two.0 one.1)
+    let one = and_parts (list_any (gives k a) terms) (list_all (is_up_to k) terms) h in
+    let two = and_parts (list_any (gives j b) terms) (list_all (is_up_to j) terms) g in
+    let first = giving terms k a one.0 in
+    let second = giving terms j b two.0 in
+    omega (arith, leb-true k j (first.stands (is_up_to j) two.1), leb-true j k (second.stands (is_up_to k) one.1))
 
 last-of : (problem : Problem) (y x : List ℕ) (k : ℕ) → IsWellFormed problem → IsRefutedPrefix problem y → IsRefutedPrefix problem x → length x ≡ suc k → hits problem y x ≡ true → is_last (own_certificate problem y) k (slice_index x k) ≡ true
 last-of problem y x k well hy hx long h = last-refuting problem x k (own_certificate problem y) well hx.prefix long (hx.shortest k (omega (arith, long))) (genuine problem y well hy) h
 
 same-length : (problem : Problem) (y x : List ℕ) → IsWellFormed problem → IsRefutedPrefix problem y → IsRefutedPrefix problem x → hits problem y x ≡ true → length y ≡ length x
-same-length problem y [] well hy hx h = absurd (none-made (own_certificate problem y) (some-term problem (own_certificate problem y) (genuine problem y well hy)) h)
-same-length problem [] (a ∷ x) well hy hx h =
-    absurd (none-made (own_certificate problem []) (some-term problem (own_certificate problem []) (genuine problem [] well hy)) (certificate-refutes problem [] (own_certificate problem []) refl))
+same-length problem [] [] well hy hx h = refl
+same-length problem (b ∷ y) [] well hy hx h = absurd (let no : true ≡ false = sym hx.hopeless ∙ hy.shortest 0 (omega arith) in cc)
+same-length problem [] (a ∷ x) well hy hx h = absurd (let no : true ≡ false = sym hy.hopeless ∙ hx.shortest 0 (omega arith) in cc)
 same-length problem (b ∷ y) (a ∷ x) well hy hx h =
     let own = last-of problem (b ∷ y) (b ∷ y) (length y) well hy hy refl (certificate-refutes problem (b ∷ y) (own_certificate problem (b ∷ y)) refl) in
     let other = last-of problem (b ∷ y) (a ∷ x) (length x) well hy hx refl h in

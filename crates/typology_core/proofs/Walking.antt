@@ -42,6 +42,15 @@ use Rattle.search_deeds.proofs.Children.{IsPrefix-child, children_below}
 use Rattle.search_deeds.proofs.Named.{certified-more, first-new, listed-new, listed-old}
 use Rattle.search_deeds.proofs.Reached.{take-append-one, take-whole}
 
+-- the empty prefix, which asks what the given pairs ask
+pub path-start : (problem : Problem) (path : Path) → path.classes.items ≡ [] → AreAsked problem (terms_of problem []) path.asked.terms.items path.asked.conditions.items → IsPathOf problem path
+path-start problem path none asked =
+    let same : prefix_of path ≡ [] = ap class_numbers none in
+    record {
+      reached = rw same (record { fits = record { short = omega arith; within = λ i below. absurd (omega arith) }; first = λ k below. absurd (omega arith) });
+      asked = rw same asked;
+    }
+
 -- What a path asks: terms of the problem, with one winner for each input.
 pub path-genuine : (problem : Problem) (path : Path) → IsPathOf problem path → are_terms problem path.asked.terms.items ≡ true
 path-genuine problem path h =

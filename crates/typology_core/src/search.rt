@@ -35,7 +35,7 @@ pub fn typology_of(alloc: Global, p: &Problem) -> Result<CompactTypology, NoMemo
     ensures named { IfOk result (λ typology. AreNamed (length typology.certificates) typology.cuts) }
 {
     let mut ready = Ready::new(alloc, p)?;
-    let mut path = Path::start(alloc);
+    let mut path = Path::start(alloc, p)?;
     let mut found = Found::nothing(alloc, p)?;
     walk(alloc, p, &mut ready, &mut path, &mut found)?;
     Ok(CompactTypology {

@@ -4,7 +4,7 @@ ghost use Rattle.ot_base.specs.Acceptable.{AreRows};
 use crate::{PLACE_LIMIT, run_schedule, search_alone};
 use erc_vectors::{ConId, List, NoMemory};
 use ot_base::{InputRows, input_of, tableau_of};
-use refutation::{Contradiction, Prefix, Typology};
+use refutation::{Contradiction, Prefix, Term, Typology};
 use std::alloc::Global;
 use std::process::Abort;
 use std::test::Fail;
@@ -74,10 +74,22 @@ fn write_prefix(text: &mut String, prefix: &Prefix) -> Result<(), Fail> {
 
 fn write_terms(text: &mut String, contradiction: &Contradiction) -> Result<(), Fail> {
     for term in contradiction.terms.as_slice() {
-        let i = term.input.0.saturating_add(1);
-        let a = term.winner.0.saturating_add(1);
-        let b = term.loser.0.saturating_add(1);
-        write!(text, "{i}:{a}>{b} ")?;
+        match term {
+            Term::Loser {
+                input,
+                winner,
+                loser,
+            } => {
+                let i = input.0.saturating_add(1);
+                let a = winner.0.saturating_add(1);
+                let b = loser.0.saturating_add(1);
+                write!(text, "{i}:{a}>{b} ")?;
+            }
+            Term::Given(k) => {
+                let k = k.saturating_add(1);
+                write!(text, "g{k} ")?;
+            }
+        }
     }
     Ok(())
 }

@@ -11,7 +11,7 @@ ghost use Rattle.std.specs.List.{list_all};
 ghost use Rattle.ot_base.specs.declared.limits.TheConstants.{INPUT_LIMIT};
 ghost use Rattle.ot_theory.specs.Hierarchies.{IsLeastHierarchy, satisfies};
 ghost use Rattle.ot_theory.specs.Languages as theory;
-ghost use Rattle.ot_theory.specs.Languages.{classes_at, conditions_of, refuted, terms_of_class};
+ghost use Rattle.ot_theory.specs.Languages.{classes_at, conditions_of, refuted, terms_of, terms_of_class};
 ghost use Rattle.refutation.specs.Asked.{AreAsked, Begins};
 ghost use Rattle.violation_profiles.specs.WellFormed.{IsPrefix};
 ghost use Rattle.refutation.specs.Prefixes.{class_numbers};
@@ -24,12 +24,12 @@ use cut_list::CutList;
 use demotion::least_hierarchy;
 use erc_vectors::{Condition, List, NoMemory, Strata};
 use ot_base::{ClassId, INPUT_LIMIT, InId};
-use refutation::{Asked, Contradiction, Language, Prefix, core_of_conditions};
+use refutation::{Asked, Contradiction, Language, Prefix, asked_of, core_of_conditions};
 use search_deeds::{Index, Ready, place_of};
 use std::alloc::Global;
 use violation_profiles::Problem;
 
-/// The prefix where the walk stands, and what its classes ask of a ranking.
+/// The prefix where the walk stands, and what the given pairs and its classes ask of a ranking.
 #[derive(Debug, Drop)]
 pub(crate) struct Path {
     pub(crate) classes: Vec<ClassId>,
@@ -280,16 +280,15 @@ fn copied(alloc: Global, conditions: &[Condition]) -> Result<Vec<Condition>, NoM
 }
 
 impl Path {
-    /// The empty prefix.
-    pub(crate) fn start(alloc: Global) -> Path
-        ensures classes { result.classes.items ≡ [] }
-        ensures terms { result.asked.terms.items ≡ [] }
-        ensures conditions { result.asked.conditions.items ≡ [] }
+    /// The empty prefix, which asks what the given pairs ask.
+    pub(crate) fn start(alloc: Global, p: &Problem) -> Result<Path, NoMemory>
+        ensures classes { IfOk result (λ path. path.classes.items ≡ []) }
+        ensures asked { IfOk result (λ path. AreAsked p.now (terms_of p.now []) path.asked.terms.items path.asked.conditions.items) }
     {
-        Path {
+        Ok(Path {
             classes: Vec::new(alloc),
-            asked: Asked::nothing(alloc),
-        }
+            asked: asked_of(alloc, p, &[])?,
+        })
     }
 }
 
