@@ -1,8 +1,8 @@
 -- Worked examples: the implications of small problems.
-use Rattle.std.proofs.Common.{◌≡◌, ℕ, [], ◌∷◌, refl}
+use Rattle.std.proofs.Common.{◌≡◌, ℕ, [], ◌∷◌, None, refl}
 use Rattle.refutation.specs.declared.implication.Implication.{Implication}
 use Rattle.ot_theory.specs.Rankings.{rankings, put_somewhere}
-use Rattle.ot_theory.specs.Problems.{Problem, input_of}
+use Rattle.ot_theory.specs.Problems.{Problem, Pair, input_of, with_given}
 use Rattle.ot_theory.proofs.Examples.{one_input, two_inputs, syllables}
 use Rattle.t_orders.specs.Implications.{implication, is_possible, implies, implications, implications_by}
 
@@ -27,6 +27,7 @@ abbrev compromise : Problem
 compromise = record {
   constraints = 2;
   inputs = input_of ((2 ∷ 0 ∷ []) ∷ (0 ∷ 2 ∷ []) ∷ (1 ∷ 1 ∷ []) ∷ []) [] ∷ input_of ((0 ∷ 0 ∷ []) ∷ []) [] ∷ [];
+  given = None;
 }
 
 pub implications_of_compromise : implications compromise ≡ from_to 0 0 1 0 ∷ from_to 0 1 1 0 ∷ []
@@ -40,6 +41,7 @@ one_way = record {
   inputs =
       input_of ((1 ∷ 0 ∷ 0 ∷ []) ∷ (0 ∷ 1 ∷ 0 ∷ []) ∷ (0 ∷ 0 ∷ 1 ∷ []) ∷ []) []
       ∷ input_of ((1 ∷ 0 ∷ 0 ∷ []) ∷ (0 ∷ 1 ∷ 1 ∷ []) ∷ []) [] ∷ [];
+  given = None;
 }
 
 pub implications_of_one_way : implications one_way ≡ from_to 0 0 1 0 ∷ []
@@ -61,3 +63,11 @@ implications_by_two_choices = refl
 pub implications_by_no_choice : implications_by two_inputs [] ≡ []
 unfolding implications_by
 implications_by_no_choice = refl
+
+-- a given pair leaves the implications under the rankings that keep it
+abbrev given_pair : Pair
+given_pair = record { above = 0; below = 1 }
+
+pub implications_with_a_pair : implications (with_given two_inputs (given_pair ∷ [])) ≡ from_to 0 1 1 1 ∷ from_to 0 2 1 2 ∷ from_to 1 1 0 1 ∷ from_to 1 2 0 2 ∷ []
+unfolding rankings put_somewhere is_possible implies implications
+implications_with_a_pair = refl

@@ -1,4 +1,4 @@
--- Under each ranking one language holds, and no other.
+-- Under each ranking that keeps the given pairs one language holds, and no other.
 use Rattle.std.proofs.Common.{◌≡◌, ℕ, zero, suc, ◌<◌, List, [], ◌∷◌, Bool, true, false, not, ◌||◌, ◌&&◌, arith, refl, sym, ◌∙◌, ap, inl, inr, length, slice_index, slice_index_or, flat_map, map, subst}
 use Rattle.std.specs.Prelude.{All, Contains, filter, nat_eq}
 use Rattle.std.specs.List.{list_any}
@@ -11,7 +11,7 @@ use Rattle.std.proofs.lemmas.List.Elements.{All-head, All-tail}
 use Rattle.std.proofs.lemmas.Map.Views.{Contains-from_any}
 use Rattle.ot_theory.specs.Rankings.{optimal, numbers_below, IsRanking, rankings}
 use Rattle.ot_theory.specs.Problems.{Input, Problem}
-use Rattle.ot_theory.specs.Languages.{choices, each_optimal, holds, refuted, languages}
+use Rattle.ot_theory.specs.Languages.{choices, each_optimal, holds, keeps_givens, refuted, languages}
 use Rattle.ot_theory.proofs.Enumeration.{any-map, any-ranking, ranking-found}
 use Rattle.ot_theory.proofs.Optimal.{classes_in}
 use Rattle.violation_profiles.specs.WellFormed.{IsWellFormed, IsWellFormedInput}
@@ -87,7 +87,7 @@ unfolding languages refuted
 any-language problem order choice p ranking full h e =
     let some : list_any (λ o. holds problem o choice) (rankings problem.constraints) ≡ true = any-ranking problem.constraints order (λ o. holds problem o choice) ranking h in
     any-filtered p (λ choice. not (refuted problem choice)) (choices problem.inputs)
-    ∙ any-choice order problem.inputs choice (λ choice. not (refuted problem choice) && p choice) full h (and_from _ _ (ap (λ b. not (not b)) some) e)
+    ∙ any-choice order problem.inputs choice (λ choice. not (refuted problem choice) && p choice) full (and_parts (keeps_givens problem order) _ h).1 (and_from _ _ (ap (λ b. not (not b)) some) e)
 
 -- a language that passes a test, and a ranking under which it holds
 pub record FoundLanguage (problem : Problem) (p : List ℕ → Bool) : Type 0 where
@@ -124,18 +124,18 @@ full-language problem choice (k, below, here) =
     let f = language-found problem (pointwise nat_eq choice) met in
     ap (λ (l : List ℕ). length l) (same_text choice f.choice (sym f.passes)) ∙ f.full
 
-pub one_language : (problem : Problem) (order : List ℕ) → IsWellFormed problem → IsRanking problem.constraints order → HoldsOneLanguage problem order
-one_language problem order well ranking =
+pub one_language : (problem : Problem) (order : List ℕ) → IsWellFormed problem → IsRanking problem.constraints order → keeps_givens problem order ≡ true → HoldsOneLanguage problem order
+one_language problem order well ranking kept =
     let its = language_of problem order well ranking in
     record {
       language = its.choice;
-      listed = listed-language problem order its.choice ranking its.full its.optimal;
-      agrees = its.optimal;
+      listed = listed-language problem order its.choice ranking its.full (and_from _ _ kept its.optimal);
+      agrees = and_from _ _ kept its.optimal;
       only = λ other listed h.
           let full = full-language problem other listed in
           same_lists other its.choice (full ∙ sym its.full) (λ k d below.
           get_or_default other k d 0 below
-          ∙ optimal-once order (classes_in problem.inputs k) (slice_index other k) (slice_index its.choice k) (optimal-at order problem.inputs other k h below) (optimal-at order problem.inputs its.choice k its.optimal (omega (arith, its.full)))
+          ∙ optimal-once order (classes_in problem.inputs k) (slice_index other k) (slice_index its.choice k) (optimal-at order problem.inputs other k (and_parts (keeps_givens problem order) _ h).1 below) (optimal-at order problem.inputs its.choice k its.optimal (omega (arith, its.full)))
           ∙ get_or_default its.choice k 0 d (omega (arith, its.full)));
     }
 
@@ -149,6 +149,6 @@ IsChoice-languages problem k d below =
       full = f.full;
       prefix = record {
         short = omega (arith, f.full);
-        within = λ i b. optimal-within f.order (classes_in problem.inputs i) (slice_index f.choice i) (optimal-at f.order problem.inputs f.choice i f.agrees b);
+        within = λ i b. optimal-within f.order (classes_in problem.inputs i) (slice_index f.choice i) (optimal-at f.order problem.inputs f.choice i (and_parts (keeps_givens problem f.order) _ f.agrees).1 b);
       };
     })

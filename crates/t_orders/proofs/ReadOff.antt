@@ -1,10 +1,10 @@
 -- What can be read off the languages: which outputs are possible, and which imply which.
 use Rattle.std.proofs.Common.{◌≡◌, ℕ, ◌<◌, List, [], ◌∷◌, Bool, true, false, not, ◌||◌, ◌&&◌, arith, refl, sym, ◌∙◌, ap, length, slice_index}
 use Rattle.std.specs.List.{list_any, list_all}
-use Rattle.std.proofs.lemmas.Bool.{eq-eqb, eqb-true}
+use Rattle.std.proofs.lemmas.Bool.{and_from, and_parts, eq-eqb, eqb-true}
 use Rattle.ot_theory.specs.Rankings.{optimal, rankings}
 use Rattle.ot_theory.specs.Problems.{Problem}
-use Rattle.ot_theory.specs.Languages.{holds, languages, classes_at}
+use Rattle.ot_theory.specs.Languages.{each_optimal, holds, keeps_givens, languages, classes_at}
 use Rattle.ot_theory.proofs.Enumeration.{any-ranking, ranking-found}
 use Rattle.ot_theory.proofs.Sets.{both_ways}
 use Rattle.violation_profiles.specs.WellFormed.{IsWellFormed}
@@ -15,10 +15,11 @@ use Rattle.t_orders.proofs.OneLanguage.{any-language, language-found, language_o
 -- Under a ranking under which a choice holds, what wins is what the choice has.
 wins-has : (problem : Problem) (order choice : List ℕ) (output : Output) → length choice ≡ length problem.inputs → holds problem order choice ≡ true → output.input < length problem.inputs → wins problem order output ≡ has output choice
 wins-has problem order choice output full h below =
-    let here : optimal order (classes_at problem output.input) (slice_index choice output.input) ≡ true = optimal-at order problem.inputs choice output.input h (omega arith) in
+    let parts = and_parts (keeps_givens problem order) (each_optimal order problem.inputs choice) h in
+    let here : optimal order (classes_at problem output.input) (slice_index choice output.input) ≡ true = optimal-at order problem.inputs choice output.input parts.1 (omega arith) in
     both_ways _ _
-    (λ wins. eq-eqb (slice_index choice output.input) output.class (optimal-once order (classes_at problem output.input) (slice_index choice output.input) output.class here wins))
-    (λ has. sym (ap (optimal order (classes_at problem output.input)) (eqb-true (slice_index choice output.input) output.class has)) ∙ here)
+    (λ wins. eq-eqb (slice_index choice output.input) output.class (optimal-once order (classes_at problem output.input) (slice_index choice output.input) output.class here (and_parts (keeps_givens problem order) _ wins).1))
+    (λ has. and_from _ _ parts.0 (sym (ap (optimal order (classes_at problem output.input)) (eqb-true (slice_index choice output.input) output.class has)) ∙ here))
 
 -- Some ranking makes an output optimal exactly where a language has it.
 pub possible_by_languages : (problem : Problem) (output : Output) → IsWellFormed problem → output.input < length problem.inputs → is_possible problem output ≡ list_any (has output) (languages problem)
@@ -29,7 +30,8 @@ possible_by_languages problem output well below = both_ways _ _ into out
     into h =
         let f = ranking-found problem.constraints (λ order. wins problem order output) h in
         let its = language_of problem f.order well f.ranking in
-        any-language problem f.order its.choice (has output) f.ranking its.full its.optimal (sym (wins-has problem f.order its.choice output its.full its.optimal below) ∙ f.passes)
+        let held : holds problem f.order its.choice ≡ true = and_from _ _ (and_parts (keeps_givens problem f.order) _ f.passes).0 its.optimal in
+        any-language problem f.order its.choice (has output) f.ranking its.full held (sym (wins-has problem f.order its.choice output its.full held below) ∙ f.passes)
 
     out : list_any (has output) (languages problem) ≡ true → list_any (λ order. wins problem order output) (rankings problem.constraints) ≡ true
     out h =
@@ -72,7 +74,9 @@ implied_by_languages problem from to well below_from below_to =
     into h =
         let f = ranking-found problem.constraints parts_order h in
         let its = language_of problem f.order well f.ranking in
-        any-language problem f.order its.choice parts_choice f.ranking its.full its.optimal (sym (same f.order its.choice its.full its.optimal) ∙ f.passes)
+        let first = (and_parts (wins problem f.order from) (not (wins problem f.order to)) f.passes).0 in
+        let held : holds problem f.order its.choice ≡ true = and_from _ _ (and_parts (keeps_givens problem f.order) _ first).0 its.optimal in
+        any-language problem f.order its.choice parts_choice f.ranking its.full held (sym (same f.order its.choice its.full held) ∙ f.passes)
 
     out : list_any parts_choice (languages problem) ≡ true → list_any parts_order (rankings problem.constraints) ≡ true
     out h =

@@ -3,7 +3,7 @@ use Rattle.std.specs.Prelude.{◌≡◌, ℕ, Bool, not, ◌&&◌, ◌||◌, ◌
 use Rattle.std.specs.List.{list_any, list_all}
 use Rattle.ot_theory.specs.Rankings.{numbers_below, rankings, optimal}
 use Rattle.ot_theory.specs.Problems.{Problem}
-use Rattle.ot_theory.specs.Languages.{classes_at, languages}
+use Rattle.ot_theory.specs.Languages.{classes_at, keeps_givens, languages}
 use Rattle.refutation.specs.declared.implication.Implication.{Implication}
 use Rattle.refutation.specs.declared.typology.Language.{Language}
 
@@ -16,19 +16,19 @@ pub record Output : Type 0 where
 abbrev pub outputs : Problem → List Output
 outputs problem = flat_map (λ i. map (λ a. record { input = i; class = a }) (numbers_below (length (classes_at problem i)))) (numbers_below (length problem.inputs))
 
--- the ranking makes the output optimal in its input
+-- the ranking keeps the given pairs, and makes the output optimal in its input
 abbrev pub wins : Problem → List ℕ → Output → Bool
-wins problem order output = optimal order (classes_at problem output.input) output.class
+wins problem order output = keeps_givens problem order && optimal order (classes_at problem output.input) output.class
 
--- some ranking makes the output optimal
+-- some ranking that keeps the given pairs makes the output optimal
 unfoldable pub is_possible : Problem → Output → Bool
 is_possible problem output = list_any (λ order. wins problem order output) (rankings problem.constraints)
 
--- every ranking that makes the one output optimal makes the other optimal
+-- every ranking that keeps the given pairs and makes the one output optimal makes the other optimal
 unfoldable pub implies : Problem → Output → Output → Bool
 implies problem from to = list_all (λ order. not (wins problem order from) || wins problem order to) (rankings problem.constraints)
 
--- An implication is listed where its two inputs differ and some ranking makes the implying output optimal.
+-- An implication is listed where its two inputs differ and some ranking that keeps the given pairs makes the implying output optimal.
 abbrev pub is_listed : Problem → Output → Output → Bool
 is_listed problem from to = not (from.input == to.input) && is_possible problem from && implies problem from to
 

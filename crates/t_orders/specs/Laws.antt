@@ -3,11 +3,11 @@ use Rattle.std.specs.Prelude.{◌≡◌, ℕ, ◌<◌, true, not, ◌||◌, List
 use Rattle.std.specs.List.{list_any, list_all}
 use Rattle.ot_theory.specs.Rankings.{IsRanking}
 use Rattle.ot_theory.specs.Problems.{Problem}
-use Rattle.ot_theory.specs.Languages.{holds, languages}
+use Rattle.ot_theory.specs.Languages.{holds, keeps_givens, languages}
 use Rattle.violation_profiles.specs.WellFormed.{IsWellFormed}
 use Rattle.t_orders.specs.Implications.{Output, has, is_possible, implies, implications, implications_by}
 
--- Under a ranking one language holds, and no other.
+-- Under a ranking that keeps the given pairs one language holds, and no other.
 pub record HoldsOneLanguage (problem : Problem) (order : List ℕ) : Type 0 where
   pub language : List ℕ
   pub listed : Contains (languages problem) language
@@ -15,7 +15,7 @@ pub record HoldsOneLanguage (problem : Problem) (order : List ℕ) : Type 0 wher
   pub only : (other : List ℕ) → Contains (languages problem) other → holds problem order other ≡ true → other ≡ language
 
 abbrev pub GivesOneLanguage : Problem → List ℕ → Type 0
-GivesOneLanguage problem order = IsWellFormed problem → IsRanking problem.constraints order → HoldsOneLanguage problem order
+GivesOneLanguage problem order = IsWellFormed problem → IsRanking problem.constraints order → keeps_givens problem order ≡ true → HoldsOneLanguage problem order
 
 -- Some ranking makes an output optimal exactly where a language has it.
 abbrev pub IsPossibleByLanguages : Problem → Output → Type 0

@@ -5,12 +5,12 @@ ghost use Rattle.ot_theory.specs.Problems.{Problem};
 ghost use Rattle.t_orders.specs.Implications.{Output};
 ghost use Rattle.t_orders.specs.Laws.{AreToldByLanguages, GivesOneLanguage, ImpliesByLanguages, IsPossibleByLanguages};
 
-/// Under each ranking one language of a problem holds, and no other.
+/// Under each ranking that keeps the given pairs one language of a problem holds, and no other.
 pub fn one_language_for_each_ranking()
     ensures { (problem : Problem) (order : List ℕ) → GivesOneLanguage problem order }
 {}
 
-/// Some ranking makes an output optimal exactly where a language has it.
+/// Some ranking that keeps the given pairs makes an output optimal exactly where a language has it.
 pub fn possible_by_languages()
     ensures { (problem : Problem) (output : Output) → IsPossibleByLanguages problem output }
 {}
