@@ -89,5 +89,5 @@ pub givens-kept : (problem : Problem) (order : List ℕ) → IsRanking problem.c
 givens-kept problem order ranking h =
     list_all-map (λ term. keeps order (condition_of problem term)) Given (numbers_below (length (givens problem)))
     ∙ by_number (λ k. keeps order (condition_of problem (Given k))) (λ pair. stands_before order pair.above pair.below) (givens problem) 0 (λ k pair e.
-        let here : 0 + k ≡ k = omega arith in
-        rw here (ap (λ (o : Option Pair). keeps order (option_map_or (λ (p : Pair). over problem.constraints p.above p.below) o [])) e ∙ pair-kept problem.constraints order pair ranking (pair_at problem.constraints (givens problem) k pair h e)))
+    let here : 0 + k ≡ k = omega arith in
+    rw here (ap (λ (o : Option Pair). keeps order (option_map_or (λ (p : Pair). over problem.constraints p.above p.below) o [])) e ∙ pair-kept problem.constraints order pair ranking (pair_at problem.constraints (givens problem) k pair h e)))

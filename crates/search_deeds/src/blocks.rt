@@ -220,7 +220,9 @@ fn winner_by(term: &Term, input: InId) -> Option<ClassId>
 {
     match *term {
         Term::Loser {
-            input: own, winner, ..
+            input: own,
+            winner,
+            ..
         } if own == input => Some(winner),
         _ => None,
     }
