@@ -12,8 +12,6 @@ mod laws;
 mod measure;
 mod next;
 mod strata;
-#[cfg(test)]
-mod tests;
 
 pub use demoted::biased;
 pub use laws::one_hierarchy;

@@ -11,8 +11,6 @@ mod fronts;
 mod order;
 mod rounds;
 mod shared;
-#[cfg(test)]
-mod tests;
 
 pub use demoted::{Demoted, demote, least_hierarchy};
 pub use fronts::last_needed;

@@ -10,9 +10,6 @@ ghost use Rattle.std.specs.List.{list_all};
 ghost use Rattle.ot_theory.specs.Conditions.{is_even};
 ghost use Rattle.ot_theory.specs.Entailment.{entails};
 
-#[cfg(test)]
-mod tests;
-
 use demotion::is_hopeless;
 use erc_vectors::{Condition, List, NoMemory};
 use std::alloc::Global;

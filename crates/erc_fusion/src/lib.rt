@@ -7,7 +7,5 @@
 #![tactic(auto)]
 
 mod fusion;
-#[cfg(test)]
-mod tests;
 
 pub use fusion::{fuse, is_contradiction};

@@ -11,8 +11,6 @@ mod order;
 mod reduced;
 mod reduction;
 mod shared;
-#[cfg(test)]
-mod tests;
 mod visit;
 
 pub use reduced::Bases;

@@ -9,8 +9,6 @@
 
 mod listing;
 mod necessary;
-#[cfg(test)]
-mod tests;
 
 pub use erc_vectors::Cover;
 pub use listing::covers;

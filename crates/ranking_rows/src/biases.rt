@@ -1,40 +1,27 @@
-ghost use Rattle.std.specs.Prelude.{◌≡◌, length, All};
+//! Biased demotion, and the r-measure.
 
-use crate::{biased, r_measure};
+ghost use Rattle.std.specs.Prelude.{◌≡◌, ◌≤◌, length, All};
+ghost use Rattle.erc_vectors.specs.declared.condition.TheConstants.{LIMIT};
+
+use crate::marks::{condition, levels_of, strata};
 use Mark::{E, L, W};
+use biased_demotion::{biased, r_measure};
 use demotion::{Demoted, demote};
-use erc_vectors::{ConId, Condition, Mark, NoMemory, Strata};
+use erc_vectors::{Condition, Mark, NoMemory};
 use std::alloc::Global;
 use std::process::Abort;
 
-fn condition(rt: &impl Abort, marks: [Mark; 5]) -> Condition
-    ensures { length result ≡ 5 }
-{
-    Condition::of(&marks).expect(rt, "five marks")
-}
-
-fn levels_of(strata: &Strata) -> [u8; 5]
-    requires { length strata.now ≡ 5 }
-{
-    [
-        strata.level(ConId(0)),
-        strata.level(ConId(1)),
-        strata.level(ConId(2)),
-        strata.level(ConId(3)),
-        strata.level(ConId(4)),
-    ]
-}
-
 /// Biased demotion of the conditions gives these stratum numbers, and the hierarchy has this r-measure.
-fn check(
+fn check<const N: usize>(
     rt: &impl Abort,
     alloc: Global,
     set: &[Condition],
-    faith: [bool; 5],
-    levels: [u8; 5],
+    faith: [bool; N],
+    levels: [u8; N],
     measure: u32,
 ) -> Result<(), NoMemory>
-    requires { All (λ marks. length marks ≡ 5) set.now }
+    requires within { N ≤ LIMIT }
+    requires widths { All (λ marks. length marks ≡ N) set.now }
 {
     let found = biased(alloc, set, &faith)?;
     assert!(rt; matches!(&found, Demoted::Ranked(_)));
@@ -109,24 +96,9 @@ fn one_faithfulness_constraint_that_frees_most(rt: HostRuntime) -> Result<(), No
 
 #[test]
 fn one_of_two_that_would_do(rt: HostRuntime) -> Result<(), NoMemory> {
-    let set = [
-        Condition::of(&[L, E, W, E]).expect(&rt, "four marks"),
-        Condition::of(&[E, L, W, W]).expect(&rt, "four marks"),
-    ];
+    let set = [condition(&rt, [L, E, W, E]), condition(&rt, [E, L, W, W])];
     let faith = [false, false, true, true];
-    let found = biased(rt.alloc(), &set, &faith)?;
-    assert!(rt; matches!(&found, Demoted::Ranked(_)));
-    if let Demoted::Ranked(strata) = &found {
-        let levels = [
-            strata.level(ConId(0)),
-            strata.level(ConId(1)),
-            strata.level(ConId(2)),
-            strata.level(ConId(3)),
-        ];
-        assert_eq!(rt; levels, [2, 2, 1, 3]);
-        assert_eq!(rt; r_measure(strata, &faith), 2);
-    }
-    Ok(())
+    check(&rt, rt.alloc(), &set, faith, [2, 2, 1, 3], 2)
 }
 
 #[test]
@@ -201,17 +173,7 @@ fn hierarchies_without_conditions(rt: HostRuntime) -> Result<(), NoMemory> {
         ([false, false, false], [1, 1, 1], 0),
         ([false, false, true], [1, 1, 2], 2),
     ] {
-        let found = biased(rt.alloc(), &[], &faith)?;
-        assert!(rt; matches!(&found, Demoted::Ranked(_)));
-        if let Demoted::Ranked(strata) = &found {
-            let found = [
-                strata.level(ConId(0)),
-                strata.level(ConId(1)),
-                strata.level(ConId(2)),
-            ];
-            assert_eq!(rt; found, levels);
-            assert_eq!(rt; r_measure(strata, &faith), measure);
-        }
+        check(&rt, rt.alloc(), &[], faith, levels, measure)?;
     }
     Ok(())
 }
@@ -219,7 +181,7 @@ fn hierarchies_without_conditions(rt: HostRuntime) -> Result<(), NoMemory> {
 /// Equal strata count for nothing.
 #[test]
 fn only_strictly_higher_strata_are_counted(rt: HostRuntime) {
-    let strata = Strata::of(&[1, 2, 2, 3, 2]).expect(&rt, "five levels");
+    let strata = strata(&rt, [1, 2, 2, 3, 2]);
     assert_eq!(rt; r_measure(&strata, &[false, false, true, true, false]), 4);
     assert_eq!(rt; r_measure(&strata, &[true, true, false, false, false]), 0);
 }

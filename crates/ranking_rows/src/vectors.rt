@@ -1,25 +1,16 @@
+//! Conditions, rankings and hierarchies, and the list that grows.
+
 ghost use Rattle.std.specs.Prelude.{◌≡◌, length};
 
-use crate::{ConId, Condition, LIMIT, List, Mark, Mask, NoMemory, Order, Strata};
+use crate::marks::{condition, strata};
 use Mark::{E, L, W};
+use erc_vectors::{ConId, Condition, LIMIT, List, Mark, Mask, NoMemory, Order, Strata};
 use std::process::Abort;
-
-fn condition(rt: &impl Abort, marks: &[Mark; 3]) -> Condition
-    ensures { length result ≡ 3 }
-{
-    Condition::of(marks).expect(rt, "three marks")
-}
 
 fn order(rt: &impl Abort, places: [u16; 3]) -> Order
     ensures { length result ≡ 3 }
 {
     Order::of(&places.map(ConId)).expect(rt, "a ranking")
-}
-
-fn strata(rt: &impl Abort, levels: &[u8; 3]) -> Strata
-    ensures { length result ≡ 3 }
-{
-    Strata::of(levels).expect(rt, "three levels")
 }
 
 #[test]
@@ -30,7 +21,7 @@ fn a_ranking_keeps_by_its_first_mark_that_is_not_even(rt: HostRuntime) {
         ("all are even", [E, E, E], [1, 2, 0], true),
         ("W is last", [E, E, W], [0, 1, 2], true),
     ] {
-        let condition = condition(&rt, &marks);
+        let condition = condition(&rt, marks);
         let order = order(&rt, places);
         assert_eq!(rt; condition.satisfied_by(&order), kept, "{name}");
     }
@@ -44,7 +35,7 @@ fn the_masks_have_a_bit_for_each_win_and_loss(rt: HostRuntime) {
         ("last wins", [L, E, W], 0b100, 0b001),
         ("all lose", [L, L, L], 0, 0b111),
     ] {
-        let condition = condition(&rt, &marks);
+        let condition = condition(&rt, marks);
         assert_eq!(rt;
             (condition.w_mask(), condition.l_mask()),
             (wins, losses),
@@ -76,8 +67,8 @@ fn a_hierarchy_satisfies_by_strict_strata(rt: HostRuntime) {
         ("no W", [L, E, E], [2, 1, 1], false, 2),
         ("no L", [W, E, E], [2, 1, 1], true, 2),
     ] {
-        let condition = condition(&rt, &marks);
-        let strata = strata(&rt, &levels);
+        let condition = condition(&rt, marks);
+        let strata = strata(&rt, levels);
         assert_eq!(rt; strata.satisfies(&condition), satisfied, "{name}");
         assert_eq!(rt; strata.lowest(), lowest, "{name}");
     }

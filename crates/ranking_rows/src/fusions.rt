@@ -1,15 +1,11 @@
+//! Fusion, and which conditions are contradictions.
+
 ghost use Rattle.std.specs.Prelude.{◌≡◌, ◌<◌, length, All};
 
-use crate::{fuse, is_contradiction};
+use crate::marks::condition;
 use Mark::{E, L, W};
+use erc_fusion::{fuse, is_contradiction};
 use erc_vectors::{ConId, Condition, Mark};
-use std::process::Abort;
-
-fn condition(rt: &impl Abort, marks: [Mark; 3]) -> Condition
-    ensures { length result ≡ 3 }
-{
-    Condition::of(&marks).expect(rt, "three marks")
-}
 
 fn marks_of(c: &Condition) -> [Mark; 3]
     requires { length c.now ≡ 3 }

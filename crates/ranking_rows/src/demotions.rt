@@ -1,34 +1,14 @@
+//! Demotion, and the ranking along a hierarchy.
+
 ghost use Rattle.std.specs.Prelude.{◌≡◌, length, All};
 
-use crate::{Demoted, demote, least_hierarchy, order_of};
+use crate::marks::{condition, levels_of, strata};
 use Mark::{E, L, W};
+use demotion::{Demoted, demote, least_hierarchy, order_of};
 use erc_fusion::{fuse, is_contradiction};
-use erc_vectors::{ConId, Condition, Mark, NoMemory, Strata};
+use erc_vectors::{Condition, Mark, NoMemory};
 use std::alloc::Global;
 use std::process::Abort;
-
-fn condition(rt: &impl Abort, marks: [Mark; 4]) -> Condition
-    ensures { length result ≡ 4 }
-{
-    Condition::of(&marks).expect(rt, "four marks")
-}
-
-fn strata(rt: &impl Abort, levels: [u8; 4]) -> Strata
-    ensures { length result ≡ 4 }
-{
-    Strata::of(&levels).expect(rt, "four levels")
-}
-
-fn levels_of(strata: &Strata) -> [u8; 4]
-    requires { length strata.now ≡ 4 }
-{
-    [
-        strata.level(ConId(0)),
-        strata.level(ConId(1)),
-        strata.level(ConId(2)),
-        strata.level(ConId(3)),
-    ]
-}
 
 /// Demotes the conditions. Where a hierarchy is found it has these levels, and else these positions are left open.
 fn check(

@@ -1,15 +1,9 @@
-ghost use Rattle.std.specs.Prelude.{◌≡◌, length};
+//! Entailment.
 
-use crate::entails;
+use crate::marks::condition;
 use Mark::{E, L, W};
-use erc_vectors::{Condition, Mark, NoMemory};
-use std::process::Abort;
-
-fn condition(rt: &impl Abort, marks: [Mark; 3]) -> Condition
-    ensures { length result ≡ 3 }
-{
-    Condition::of(&marks).expect(rt, "three marks")
-}
+use entailment::entails;
+use erc_vectors::{Mark, NoMemory};
 
 #[test]
 fn what_a_set_entails(rt: HostRuntime) -> Result<(), NoMemory> {

@@ -1,27 +1,18 @@
-use crate::bases;
+//! The informative and the skeletal basis.
+
+use crate::marks::{condition, spelled};
 use Mark::{E, L, W};
 use demotion::is_hopeless;
 use erc_vectors::{Condition, Mark, Mask, NoMemory};
+use fusional_reduction::bases;
 use std::alloc::Global;
 use std::process::Abort;
 
-/// The condition of a text that has a letter for each constraint.
-fn condition(rt: &impl Abort, alloc: Global, text: &str) -> Result<Condition, NoMemory> {
-    let mut marks = Vec::new(alloc);
-    for letter in text.as_bytes() {
-        marks.push(match *letter {
-            b'W' => W,
-            b'L' => L,
-            _ => E,
-        })?;
-    }
-    Ok(Condition::of(marks.as_slice()).expect(rt, "as many marks as there may be"))
-}
-
+/// The conditions of these texts.
 fn conditions(rt: &impl Abort, alloc: Global, texts: &[&str]) -> Result<Vec<Condition>, NoMemory> {
     let mut set = Vec::new(alloc);
     for text in texts {
-        set.push(condition(rt, alloc, text)?)?;
+        set.push(spelled(rt, alloc, text)?)?;
     }
     Ok(set)
 }
@@ -136,7 +127,7 @@ fn each_of_many_is_a_member(rt: HostRuntime) -> Result<(), NoMemory> {
         let mut marks = [E; 31];
         marks[k] = W;
         marks[30] = L;
-        set.push(Condition::of(&marks).expect(&rt, "31 marks"))?;
+        set.push(condition(&rt, marks))?;
     }
     let all = set.as_slice();
     check(&rt, rt.alloc(), all, all, all)

@@ -1,18 +1,15 @@
+//! The covers of a set of conditions.
+
 ghost use Rattle.std.specs.Prelude.{◌≡◌, false, length, All};
 ghost use Rattle.ot_theory.specs.Refutations.{no_ranking_keeps};
 
-use crate::{Cover, covers};
+use crate::marks::condition;
 use Mark::{E, L, W};
 use demotion::is_hopeless;
-use erc_vectors::{ConId, Condition, Mark, NoMemory};
+use erc_vectors::{ConId, Condition, Cover, Mark, NoMemory};
+use hasse_listing::covers;
 use std::alloc::Global;
 use std::process::Abort;
-
-fn condition(rt: &impl Abort, marks: [Mark; 4]) -> Condition
-    ensures { length result ≡ 4 }
-{
-    Condition::of(&marks).expect(rt, "four marks")
-}
 
 fn cover(above: u16, below: u16) -> Cover {
     Cover {
