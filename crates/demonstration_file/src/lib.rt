@@ -129,6 +129,3 @@ fn put_violations(text: &mut Text, group: usize, drawn: &[usize; OWNED]) -> Resu
     }
     Ok(())
 }
-
-#[cfg(test)]
-mod tests;

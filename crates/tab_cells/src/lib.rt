@@ -11,8 +11,6 @@ ghost use Rattle.tab_cells.specs.Cells.{cells_of};
 
 mod pieces;
 mod shared;
-#[cfg(test)]
-mod tests;
 mod texts;
 
 pub use pieces::{Cells, Lines};

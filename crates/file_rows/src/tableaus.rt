@@ -1,7 +1,9 @@
-use crate::{FileRefusal, ReadError, Why, read_tableau};
+//! The tableaus that files give, and the faults of files.
+
 use ot_base::{CandidateRow, Label, Tableau};
 use std::alloc::Global;
 use std::test::Fail;
+use tableau_file::{FileRefusal, ReadError, Why, read_tableau};
 
 fn push_label(text: &mut String, label: &Label) -> Result<(), Fail> {
     match std::str::from_utf8(label.bytes()) {

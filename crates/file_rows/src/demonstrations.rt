@@ -1,4 +1,6 @@
-use crate::demonstration_file;
+//! The demonstration file of a number.
+
+use demonstration_file::demonstration_file;
 use std::test::Fail;
 
 const HEADER: &str = "\t\t\tC1\tC2\tC3\tC4\tC5\tC6\tC7\tC8\tC9\tC10\tC11\tC12";

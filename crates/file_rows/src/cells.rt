@@ -1,5 +1,7 @@
-use crate::{CellText, cells, is_empty_cell, lines, unquote};
+//! Lines, cells, and the texts of cells.
+
 use std::test::Fail;
+use tab_cells::{CellText, cells, is_empty_cell, lines, unquote};
 
 #[test]
 fn cuts_lines(rt: HostRuntime) {

@@ -1,5 +1,7 @@
-use crate::{Failed, Files, Label, MemFiles, MemSink, Sink, SureFiles};
+//! Files and sinks in memory.
+
 use erc_vectors::{List, NoMemory};
+use ot_base::{Failed, Files, Label, MemFiles, MemSink, Sink, SureFiles};
 use std::alloc::Global;
 use std::test::Fail;
 
