@@ -55,10 +55,19 @@ fails-column test k n texts within e =
 pub constraints_left : (n : ℕ) (cells : List (List ℕ)) → map (cell (map text_of (drop 3 cells))) (range_with_len 0 n) ≡ constraint_cells n (map text_of cells)
 constraints_left n cells = ap (λ texts. map (cell texts) (range_with_len 0 n)) (sym (drop-map text_of 3 cells)) ∙ columns-drop 3 0 n (map text_of cells)
 
+extra_behind : (k : ℕ) (cells : List (List ℕ)) → list_any (λ cell. not (is_empty (text_of cell))) (drop k cells) ≡ list_any (λ text. not (is_empty text)) (drop k (map text_of cells))
+extra_behind k cells =
+    sym (any-map (λ text. not (is_empty text)) text_of (drop k cells))
+    ∙ ap (list_any (λ text. not (is_empty text))) (sym (drop-map text_of k cells))
+
 pub extra_after : (n : ℕ) (cells : List (List ℕ)) → list_any (λ cell. not (is_empty (text_of cell))) (drop (n + 3) cells) ≡ has_extra n (map text_of cells)
-extra_after n cells =
-    sym (any-map (λ text. not (is_empty text)) text_of (drop (n + 3) cells))
-    ∙ ap (list_any (λ text. not (is_empty text))) (sym (drop-map text_of (n + 3) cells))
+extra_after n cells = extra_behind (n + 3) cells
+
+-- what is left of a line behind its first two cells
+pub extra_second : (cells next last : List (List ℕ)) (line : List ℕ) → cells ≡ cells_of line → next ≡ drop 1 cells → last ≡ drop 1 next
+    → list_any (λ cell. not (is_empty (text_of cell))) last ≡ list_any (λ text. not (is_empty text)) (drop 2 (texts_of line))
+extra_second cells next last line is rest further =
+    ap (list_any (λ cell. not (is_empty (text_of cell)))) (numbers_left cells next last line is rest further) ∙ extra_behind 2 (cells_of line)
 
 pub extra_left : (n : ℕ) (cells : List (List ℕ)) → list_any (λ cell. not (is_empty (text_of cell))) (drop n (drop 3 cells)) ≡ has_extra n (map text_of cells)
 extra_left n cells =

@@ -8,11 +8,11 @@ use Rattle.tableau_file.specs.Numbers.{is_count, is_violation}
 use Rattle.tableau_file.specs.Rows.{cell, constraint_cells}
 use Rattle.tableau_file.specs.Faults.{fault, has_extra, input_faults, candidate_faults, number_faults, row_faults, IsFirst}
 
-pub first-fault : (test : Bool) (why : Why) (more : List Why) → test ≡ true → IsFirst why (fault test why ++ more)
-first-fault test why more e = (more, rw e refl)
+pub first-fault : {X : Type 0} (test : Bool) (why : X) (more : List X) → test ≡ true → IsFirst why (fault test why ++ more)
+first-fault {X} test why more e = (more, rw e refl)
 
-first-append : (why : Why) (faults more : List Why) → IsFirst why faults → IsFirst why (faults ++ more)
-first-append why faults more first = (first.0 ++ more, ap (λ list. list ++ more) first.1)
+pub first-append : {X : Type 0} (why : X) (faults more : List X) → IsFirst why faults → IsFirst why (faults ++ more)
+first-append {X} why faults more first = (first.0 ++ more, ap (λ list. list ++ more) first.1)
 
 pub input_first : (n : ℕ) (inputs : List InputRows) (texts : List (List ℕ)) (input : List ℕ) (why : Why) → input ≡ cell texts 0 → IsFirst why (input_faults inputs (input ∷ [])) → IsFirst why (row_faults n inputs texts)
 input_first n inputs texts input why is first =

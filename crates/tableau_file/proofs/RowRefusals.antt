@@ -110,16 +110,19 @@ pub left-all : (n : ℕ) (lines : List (List (List ℕ))) → LeavesAll n [] 3 l
 unfolding inputs_of
 left-all n lines = record { inputs_left = refl; refusals_left = refl }
 
+pub blank-row : (number : ℕ) (line : List (List ℕ)) (lines : List (List (List ℕ))) → is_blank line ≡ true → rows_from number (line ∷ lines) ≡ rows_from (number + 1) lines
+blank-row number line lines blank = rw blank refl
+
 pub left-blank : (n : ℕ) (inputs : List InputRows) (number : ℕ) (line : List (List ℕ)) (lines : List (List (List ℕ))) (rows : List (ℕ × List (List ℕ)))
     → is_blank line ≡ true → LeavesAll n inputs number (line ∷ lines) rows → LeavesAll n inputs (number + 1) lines rows
 left-blank n inputs number line lines rows blank left =
-    let same : rows_from number (line ∷ lines) ≡ rows_from (number + 1) lines = rw blank refl in
+    let same = blank-row number line lines blank in
     record {
       inputs_left = ap (fold (with_row n) inputs) (sym same) ∙ left.inputs_left;
       refusals_left = ap (refusals_after n inputs) (sym same) ∙ left.refusals_left;
     }
 
-first-row : (number : ℕ) (line : List (List ℕ)) (lines : List (List (List ℕ))) → is_blank line ≡ false → rows_from number (line ∷ lines) ≡ (number, line) ∷ rows_from (number + 1) lines
+pub first-row : (number : ℕ) (line : List (List ℕ)) (lines : List (List (List ℕ))) → is_blank line ≡ false → rows_from number (line ∷ lines) ≡ (number, line) ∷ rows_from (number + 1) lines
 first-row number line lines row = rw row refl
 
 pub left-sound : (n : ℕ) (inputs : List InputRows) (number : ℕ) (line : List (List ℕ)) (lines : List (List (List ℕ))) (rows : List (ℕ × List (List ℕ)))

@@ -12,8 +12,8 @@ use Rattle.tableau_file.specs.Numbers.{is_count, is_violation}
 use Rattle.tableau_file.specs.Rows.{cell, is_empty, constraint_cells, continues, inputs_of, rows_from}
 
 -- a fault where a test passes
-abbrev pub fault : Bool → Why → List Why
-fault test why = if test then why ∷ [] else []
+abbrev pub fault : {X : Type 0} → Bool → X → List X
+fault {X} test why = if test then why ∷ [] else []
 
 -- the number of columns up to the last that is not empty
 abbrev pub columns_used : List (List ℕ) → ℕ

@@ -23,10 +23,10 @@ without_mark bytes = if begins_with bytes (239 ∷ 187 ∷ 191 ∷ []) then drop
 unfoldable pub table_of : List ℕ → List (List (List ℕ))
 table_of bytes = map texts_of (lines_of (without_mark bytes))
 
--- the first refusal, or else the tableau
-abbrev pub first_or : List FileRefusal → Tableau → Result Tableau FileRefusal
-first_or [] tableau = Ok tableau
-first_or (refusal ∷ others) tableau = Err refusal
+-- the first refusal, or else what was read
+abbrev pub first_or : {X E : Type 0} → List E → X → Result X E
+first_or {X} {E} [] read = Ok read
+first_or {X} {E} (refusal ∷ others) read = Err refusal
 
 -- the number of constraints: the columns used in the first line, less 3
 abbrev pub constraint_count : List (List (List ℕ)) → ℕ
