@@ -15,7 +15,6 @@ use Rattle.refutation.specs.Terms.{term_of, terms_in}
 use Rattle.refutation.specs.declared.contradiction.Contradiction.{Contradiction}
 use Rattle.refutation.specs.declared.judging.Finding.TheVariants.{Holds, Refuted}
 use Rattle.refutation.specs.declared.term.Term.{Term}
-use Rattle.refutation.proofs.Implied.{asked-nothing}
 use Rattle.refutation.proofs.Asking.{asked-certificate, asked-least, asked-refuted}
 use Rattle.refutation.proofs.TermsOfPrefixes.{certificate-refutes, terms_of-push}
 use Rattle.search_deeds.specs.Made.{AreMade}
@@ -26,10 +25,10 @@ use Rattle.typology_workers.specs.Remembered.{AreRemembered}
 use Rattle.typology_workers.specs.declared.path.Path.{Path}
 use Rattle.typology_workers.specs.declared.path.Step.{Step}
 
--- the empty prefix
-pub path_none : (problem : Problem) (path : Path) → path.steps.items ≡ [] → path.asked.terms.items ≡ [] → path.asked.conditions.items ≡ [] → AreMade problem path.ready → ((p : Problem) → AreRemembered p path.memo) → path.fronts ≡ 0 → IsPathOf problem path
-path_none problem path none terms conditions made remembered nothing = record {
-  asked = rw (none, terms, conditions) (asked-nothing problem);
+-- the empty prefix, which asks what the given pairs ask
+pub path_none : (problem : Problem) (path : Path) → path.steps.items ≡ [] → AreAsked problem (terms_of problem []) path.asked.terms.items path.asked.conditions.items → AreMade problem path.ready → ((p : Problem) → AreRemembered p path.memo) → path.fronts ≡ 0 → IsPathOf problem path
+path_none problem path none asked made remembered nothing = record {
+  asked = rw none asked;
   before = λ k lt. absurd (omega (arith, ap (λ (l : List Step). length l) none));
   within = λ k lt. absurd (omega (arith, ap (λ (l : List Step). length l) none));
   ordered = λ j k le lt. absurd (omega (arith, ap (λ (l : List Step). length l) none));

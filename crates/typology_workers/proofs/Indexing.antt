@@ -1,5 +1,5 @@
 -- The index of a front holds the place of each value, and what refutes a prefix stands in the slot of one of its classes.
-use Rattle.std.proofs.Common.{◌≡◌, ℕ, zero, suc, ◌+◌, ◌-◌, ◌*◌, ◌<◌, ◌≤◌, List, [], ◌∷◌, ◌++◌, Bool, true, false, length, set, get_or, refl, sym, ◌∙◌, ap, subst, arith, inl, inr, Option, Some, None, slice_get, length-append, length-set}
+use Rattle.std.proofs.Common.{◌≡◌, ℕ, zero, suc, ◌+◌, ◌-◌, ◌*◌, ◌%◌, ◌<◌, ◌≤◌, List, [], ◌∷◌, ◌++◌, Bool, true, false, length, set, get_or, refl, sym, ◌∙◌, ap, subst, arith, inl, inr, Option, Some, None, slice_get, length-append, length-set}
 use Rattle.std.specs.Prelude.{◌==◌, ◌⊎◌, slice_index, slice_index_or}
 use Rattle.std.specs.Option.{option_map_or}
 use Rattle.std.proofs.lemmas.Bool.{and_parts, and_from, eqb-true}
@@ -8,15 +8,17 @@ use Rattle.std.proofs.lemmas.List.{get_or-set_same, get_or-set_other, get_or_app
 use Rattle.std.proofs.Math.Seq.{get_or-append_seam}
 use Rattle.std.proofs.lemmas.Option.{slice_get_within}
 use Rattle.ot_theory.specs.Problems.{Problem}
-use Rattle.ot_theory.specs.Refutations.{is_contradiction, refutes}
+use Rattle.ot_theory.specs.Refutations.{is_contradiction, is_made, refutes}
 use Rattle.ot_base.specs.declared.tableau.ClassId.{ClassId}
+use Rattle.ot_base.specs.declared.tableau.InId.{InId}
 use Rattle.refutation.specs.Prefixes.{class_numbers}
-use Rattle.refutation.specs.Terms.{terms_in}
+use Rattle.refutation.specs.Terms.{term_of, terms_in}
 use Rattle.refutation.specs.declared.contradiction.Contradiction.{Contradiction}
 use Rattle.refutation.specs.declared.term.Term.{Term}
+use Rattle.refutation.specs.declared.term.Term.TheVariants.{Loser, Given}
 use Rattle.refutation.specs.Asked.{Begins}
 use Rattle.typology_workers.specs.Found.{cuts_off, value_for}
-use Rattle.typology_workers.specs.Indexed.{CutsOffAt, Has, IsGenuineAt, IsIndex, RefutesAt, last_of, slot_of, slots_with}
+use Rattle.typology_workers.specs.Indexed.{CutsOffAt, Has, IsGenuineAt, IsIndex, RefutesAt, last_of, slot_for, slot_of, slots_with}
 use Rattle.typology_workers.specs.declared.index.TheConstants.{STRIDE}
 use Rattle.std.proofs.Math.Nat.{mod-lt}
 use Rattle.typology_workers.proofs.Staying.{side}
@@ -26,7 +28,7 @@ use Rattle.typology_workers.proofs.Finds.{first-found, none-found}
 abbrev C : Type 0
 C = Contradiction
 
-pub index-none : (problem : Problem) (slots : List (List ℕ)) (indexed : ℕ) (values : List C) → 0 < length slots → ((s : ℕ) → slice_index_or slots s [] ≡ []) → indexed ≡ 0 → IsIndex problem slots indexed values
+pub index-none : (problem : Problem) (slots : List (List ℕ)) (indexed : ℕ) (values : List C) → 1 < length slots → ((s : ℕ) → slice_index_or slots s [] ≡ []) → indexed ≡ 0 → IsIndex problem slots indexed values
 index-none problem slots indexed values some empty z = record {
   some = some;
   within = omega arith;
@@ -50,8 +52,15 @@ has-either xs k m h = elim (side h.0 (length xs)) [
       inr (sym (get_or-append_seam xs m [] 0) ∙ (ap (slice_index (xs ++ m ∷ [])) (sym e) ∙ h.2))
 ]
 
-slot-small : (n i a : ℕ) → 0 < n → slot_of n i a < n
-slot-small n i a some = mod-lt (i * STRIDE + a) some
+pub slot-small : (n i a : ℕ) → 1 < n → slot_of n i a < n
+slot-small n i a some =
+    let others : 0 < n - 1 = omega arith in
+    let below : (i * STRIDE + a) % (n - 1) < n - 1 = mod-lt (i * STRIDE + a) others in
+    omega arith
+
+pub slot_for-small : (n : ℕ) (term : Term) → 1 < n → slot_for n term < n
+slot_for-small n (Loser input winner loser) some = slot-small n input.0 winner.0 some
+slot_for-small n (Given k) some = omega arith
 
 -- a value that is no contradiction has its place in no slot
 pub index-skips : (problem : Problem) (slots : List (List ℕ)) (k : ℕ) (values : List C) (value : C) → IsIndex problem slots k values → slice_get values k ≡ Some value → is_contradiction problem (terms_in value.terms) ≡ false → IsIndex problem slots (k + 1) values
@@ -83,21 +92,21 @@ index-more problem slots k values value h at genuine = by (last_of value.terms) 
     }
     by (Some term) e =
         let n = length slots in
-        let s = slot_of n term.input.0 term.winner.0 in
+        let s = slot_for n term in
         let old = slice_index_or slots s [] in
-        let lt : s < n = slot-small n term.input.0 term.winner.0 h.some in
+        let lt : s < n = slot_for-small n term h.some in
         let long = length-set slots s (old ++ k ∷ []) in record {
           some = (let b = h.some in omega arith);
           within = (let w = slice_get_within values k value at in omega arith);
           genuine = λ u m r. those s lt u m r;
-          each = λ m v t less here good last. subst (λ (c : ℕ). Has (slice_index_or (set slots s (old ++ k ∷ [])) (slot_of c t.input.0 t.winner.0) []) m) (sym long) (elim (side m k) [
-            | inl l ↦ kept s (slot_of n t.input.0 t.winner.0) lt m (h.each m v t l here good last)
+          each = λ m v t less here good last. subst (λ (c : ℕ). Has (slice_index_or (set slots s (old ++ k ∷ [])) (slot_for c t) []) m) (sym long) (elim (side m k) [
+            | inl l ↦ kept s (slot_for n t) lt m (h.each m v t l here good last)
             | inr l ↦
                 let same : m ≡ k = omega arith in
                 let u : v ≡ value = (let f = ap (slice_get values) same in cc) in
                 let w : t ≡ term = (let f = ap (λ (x : C). last_of x.terms) u in cc) in
-                subst (λ (d : ℕ). Has (slice_index_or (set slots s (old ++ k ∷ [])) (slot_of n t.input.0 t.winner.0) []) d) (sym same)
-                (subst (λ (x : Term). Has (slice_index_or (set slots s (old ++ k ∷ [])) (slot_of n x.input.0 x.winner.0) []) k) (sym w) (subst (λ (l : List ℕ). Has l k) (sym (get_or-set_same slots s (old ++ k ∷ []) [] lt)) (has-last old k)))
+                subst (λ (d : ℕ). Has (slice_index_or (set slots s (old ++ k ∷ [])) (slot_for n t) []) d) (sym same)
+                (subst (λ (x : Term). Has (slice_index_or (set slots s (old ++ k ∷ [])) (slot_for n x) []) k) (sym w) (subst (λ (l : List ℕ). Has l k) (sym (get_or-set_same slots s (old ++ k ∷ []) [] lt)) (has-last old k)))
           ]);
         }
       where
@@ -132,35 +141,34 @@ made : (o : Option ℕ) (w : ℕ) → option_map_or (λ a. a == w) o false ≡ t
 made None w h = absurd (cc)
 made (Some a) w h = ap Some (eqb-true a w h)
 
-pub made-at : (q : List ℕ) (terms : List Term) (j : ℕ) (t : Term) → refutes (terms_in terms) q ≡ true → slice_get terms j ≡ Some t → slice_get q t.input.0 ≡ Some t.winner.0
-made-at q [] j t h at = absurd (cc)
-made-at q (x ∷ xs) zero t h at =
-    let p = and_parts (option_map_or (λ a. a == x.winner.0) (slice_get q x.input.0) false) (refutes (terms_in xs) q) h in
-    let same : x ≡ t = cc in
-    subst (λ (y : Term). slice_get q y.input.0 ≡ Some y.winner.0) same (made (slice_get q x.input.0) x.winner.0 p.0)
-made-at q (x ∷ xs) (suc j) t h at = made-at q xs j t (and_parts (option_map_or (λ a. a == x.winner.0) (slice_get q x.input.0) false) (refutes (terms_in xs) q) h).1 at
+pub made-at : (q : List ℕ) (terms : List Term) (j : ℕ) (input : InId) (winner loser : ClassId) → refutes (terms_in terms) q ≡ true → slice_get terms j ≡ Some (Loser input winner loser) → slice_get q input.0 ≡ Some winner.0
+made-at q [] j input winner loser h at = absurd (cc)
+made-at q (x ∷ xs) zero input winner loser h at =
+    let same : x ≡ Loser input winner loser = cc in
+    let p = and_parts (is_made q (term_of x)) (refutes (terms_in xs) q) h in
+    made (slice_get q input.0) winner.0 (subst (λ (y : Term). is_made q (term_of y) ≡ true) same p.0)
+made-at q (x ∷ xs) (suc j) input winner loser h at = made-at q xs j input winner loser (and_parts (is_made q (term_of x)) (refutes (terms_in xs) q) h).1 at
 
 none-genuine : (problem : Problem) → is_contradiction problem [] ≡ true → ⊥
 unfolding is_contradiction
 none-genuine problem h = cc
 
 -- the last term of a value that cuts a prefix off
-pub record HasLast (q : List ℕ) (value : C) : Type 0 where
+pub record HasLast (value : C) : Type 0 where
   pub term : Term
   pub last : last_of value.terms ≡ Some term
-  pub made : slice_get q term.input.0 ≡ Some term.winner.0
 
 within-some : (xs : List Term) (j : ℕ) → j < length xs → (t : Term) × (slice_get xs j ≡ Some t)
 within-some [] j lt = absurd (omega arith)
 within-some (x ∷ xs) zero lt = (x, refl)
 within-some (x ∷ xs) (suc j) lt = within-some xs j (omega arith)
 
-pub hit-last : (problem : Problem) (q : List ℕ) (value : C) → cuts_off problem q value ≡ true → HasLast q value
+hit-last : (problem : Problem) (q : List ℕ) (value : C) → cuts_off problem q value ≡ true → HasLast value
 hit-last problem q value h =
     let p = and_parts (is_contradiction problem (terms_in value.terms)) (refutes (terms_in value.terms) q) h in
     let some : 0 < length value.terms = long value.terms p.0 in
     let t = within-some value.terms (length value.terms - 1) (omega arith) in
-    record { term = t.0; last = t.1; made = made-at q value.terms (length value.terms - 1) t.0 p.1 t.1 }
+    record { term = t.0; last = t.1 }
   where
     long : (terms : List Term) → is_contradiction problem (terms_in terms) ≡ true → 0 < length terms
     long [] g = absurd (none-genuine problem g)
@@ -170,52 +178,73 @@ hit-last problem q value h =
 pub record IsEarliestTo (problem : Problem) (values : List C) (q : List ℕ) (i best : ℕ) : Type 0 where
   pub low : best ≤ length values
   pub hit : best < length values → CutsOffAt problem values q best
-  pub first : (k : ℕ) (value : C) (term : Term) → slice_get values k ≡ Some value → cuts_off problem q value ≡ true → last_of value.terms ≡ Some term → i ≤ term.input.0 → best ≤ k
+  pub first : (k : ℕ) (value : C) (input : InId) (winner loser : ClassId) → slice_get values k ≡ Some value → cuts_off problem q value ≡ true → last_of value.terms ≡ Some (Loser input winner loser) → i ≤ input.0 → best ≤ k
 
 pub best-start : (problem : Problem) (values : List C) (q : List ℕ) (i n : ℕ) → length q ≤ i → n ≡ length values → IsEarliestTo problem values q i n
 best-start problem values q i n past e = record {
   low = omega arith;
   hit = λ lt. absurd (omega arith);
-  first = λ k value term at pass last lt.
+  first = λ k value input winner loser at pass last lt.
       let p = and_parts (is_contradiction problem (terms_in value.terms)) (refutes (terms_in value.terms) q) pass in
-      let w = slice_get_within q term.input.0 term.winner.0 (made-at q value.terms (length value.terms - 1) term p.1 last) in
+      let w = slice_get_within q input.0 winner.0 (made-at q value.terms (length value.terms - 1) input winner loser p.1 last) in
       absurd (omega arith);
 }
 
-pub best-more : (problem : Problem) (values : List C) (q : List ℕ) (slots : List (List ℕ)) (i a best next : ℕ) (places : List ℕ) → IsEarliestTo problem values q (i + 1) best → IsIndex problem slots (length values) values → slice_get q i ≡ Some a
-    → places ≡ slice_index_or slots (slot_of (length slots) i a) [] → next ≤ best → (next < best → Has places next × RefutesAt values q next) → ((j : ℕ) → j < length places → RefutesAt values q (slice_index places j) → next ≤ slice_index places j)
-    → IsEarliestTo problem values q i next
-best-more problem values q slots i a best next places b x at here low hit all = record {
-  low = (let m = b.low in omega arith);
-  hit = λ lt. elim (side next best) [ inl l ↦ cuts (hit l) | inr l ↦ let same : best ≡ next = omega arith in subst (CutsOffAt problem values q) same (b.hit (omega arith)) ];
-  first = λ k value term stands pass last lt. elim (side i term.input.0) [
-    | inl l ↦ let m = b.first k value term stands pass last (omega arith) in omega arith
-    | inr l ↦ found k value term stands pass last (omega arith)
+-- the first of `best` and of those in a slot that refute the prefix
+pub record IsNearest (values : List C) (q : List ℕ) (slots : List (List ℕ)) (s best next : ℕ) : Type 0 where
+  pub low : next ≤ best
+  pub hit : next < best → Has (slice_index_or slots s []) next × RefutesAt values q next
+  pub all : (k : ℕ) → Has (slice_index_or slots s []) k → RefutesAt values q k → next ≤ k
+
+-- by the places as by their numbers
+pub each-nearest : (values : List C) (q places : List ℕ) (next : ℕ) → ((j : ℕ) → j < length places → RefutesAt values q (slice_index places j) → next ≤ slice_index places j) → (k : ℕ) → Has places k → RefutesAt values q k → next ≤ k
+each-nearest values q places next each k h r =
+    let stands : slice_get values (slice_index places h.0) ≡ Some r.0 = subst (λ (d : ℕ). slice_get values d ≡ Some r.0) (sym h.2) r.1 in
+    subst (λ (d : ℕ). next ≤ d) h.2 (each h.0 h.1 (r.0, stands, r.2))
+
+pub nearest-cuts : (problem : Problem) (values : List C) (q : List ℕ) (slots : List (List ℕ)) (s best next : ℕ) → IsIndex problem slots (length values) values → (best < length values → CutsOffAt problem values q best)
+    → IsNearest values q slots s best next → next < length values → CutsOffAt problem values q next
+nearest-cuts problem values q slots s best next x before n lt = elim (side next best) [
+  | inl l ↦
+      let r = n.hit l in
+      let g = x.genuine s next r.0 in
+      let same : g.0 ≡ r.1.0 = (let e = g.1 in let f = r.1.1 in cc) in
+      (r.1.0, r.1.1, and_from _ _ (subst (λ (v : C). is_contradiction problem (terms_in v.terms) ≡ true) same g.2) r.1.2)
+  | inr l ↦ let low = n.low in let same : best ≡ next = omega arith in subst (CutsOffAt problem values q) same (before (omega arith))
+]
+
+-- what cuts the prefix off is not before the nearest of its slot
+nearest-first : (problem : Problem) (values : List C) (q : List ℕ) (slots : List (List ℕ)) (best next k : ℕ) (value : C) (term : Term) → IsIndex problem slots (length values) values
+    → slice_get values k ≡ Some value → cuts_off problem q value ≡ true → last_of value.terms ≡ Some term → IsNearest values q slots (slot_for (length slots) term) best next → next ≤ k
+nearest-first problem values q slots best next k value term x stands pass last n =
+    let p = and_parts (is_contradiction problem (terms_in value.terms)) (refutes (terms_in value.terms) q) pass in
+    n.all k (x.each k value term (slice_get_within values k value stands) stands p.0 last) (value, stands, p.1)
+
+pub best-more : (problem : Problem) (values : List C) (q : List ℕ) (slots : List (List ℕ)) (i a s best next : ℕ) → IsEarliestTo problem values q (i + 1) best → IsIndex problem slots (length values) values → slice_get q i ≡ Some a
+    → s ≡ slot_of (length slots) i a → IsNearest values q slots s best next → IsEarliestTo problem values q i next
+best-more problem values q slots i a s best next b x at here n = record {
+  low = (let m = b.low in let l = n.low in omega arith);
+  hit = nearest-cuts problem values q slots s best next x b.hit n;
+  first = λ k value input winner loser stands pass last lt. elim (side i input.0) [
+    | inl l ↦ let m = b.first k value input winner loser stands pass last (omega arith) in let low = n.low in omega arith
+    | inr l ↦
+        let e : input.0 ≡ i = omega arith in
+        let p = and_parts (is_contradiction problem (terms_in value.terms)) (refutes (terms_in value.terms) q) pass in
+        let m = made-at q value.terms (length value.terms - 1) input winner loser p.1 last in
+        let w : winner.0 ≡ a = (let f = ap (slice_get q) e in cc) in
+        let same : s ≡ slot_for (length slots) (Loser input winner loser) = here ∙ sym (ap (λ (d : ℕ). slot_of (length slots) d winner.0) e ∙ ap (λ (d : ℕ). slot_of (length slots) i d) w) in
+        nearest-first problem values q slots best next k value (Loser input winner loser) x stands pass last (subst (λ (d : ℕ). IsNearest values q slots d best next) same n)
   ];
 }
+
+-- at last those of given pairs
+pub best-all : (problem : Problem) (values : List C) (q : List ℕ) (slots : List (List ℕ)) (i s best next : ℕ) → IsEarliestTo problem values q i best → i ≡ 0 → IsIndex problem slots (length values) values → s ≡ length slots - 1
+    → IsNearest values q slots s best next → (k : ℕ) → CutsOffAt problem values q k → next ≤ k
+best-all problem values q slots i s best next b none x here n k h = by (hit-last problem q h.0 h.2).term (hit-last problem q h.0 h.2).last
   where
-    cuts : Has places next × RefutesAt values q next → CutsOffAt problem values q next
-    cuts r =
-        let g = x.genuine (slot_of (length slots) i a) next (subst (λ (l : List ℕ). Has l next) here r.0) in
-        let same : g.0 ≡ r.1.0 = (let e = g.1 in let f = r.1.1 in cc) in
-        (r.1.0, r.1.1, and_from _ _ (subst (λ (v : C). is_contradiction problem (terms_in v.terms) ≡ true) same g.2) r.1.2)
-
-    found : (k : ℕ) (value : C) (term : Term) → slice_get values k ≡ Some value → cuts_off problem q value ≡ true → last_of value.terms ≡ Some term → term.input.0 ≡ i → next ≤ k
-    found k value term stands pass last e =
-        let p = and_parts (is_contradiction problem (terms_in value.terms)) (refutes (terms_in value.terms) q) pass in
-        let m = made-at q value.terms (length value.terms - 1) term p.1 last in
-        let w : term.winner.0 ≡ a = (let f = ap (slice_get q) e in cc) in
-        let r = x.each k value term (slice_get_within values k value stands) stands p.0 last in
-        let n = length slots in
-        let same : slice_index_or slots (slot_of n term.input.0 term.winner.0) [] ≡ places = ap (λ (d : ℕ). slice_index_or slots (slot_of n d term.winner.0) []) e ∙ (ap (λ (d : ℕ). slice_index_or slots (slot_of n i d) []) w ∙ sym here) in
-        let s : Has places k = subst (λ (l : List ℕ). Has l k) same r in
-        subst (λ (d : ℕ). next ≤ d) s.2 (all s.0 s.1 (value, subst (λ (d : ℕ). slice_get values d ≡ Some value) (sym s.2) stands, p.1))
-
-pub best-all : (problem : Problem) (values : List C) (q : List ℕ) (i best : ℕ) → IsEarliestTo problem values q i best → i ≡ 0 → (k : ℕ) → CutsOffAt problem values q k → best ≤ k
-best-all problem values q i best b none k h =
-    let l = hit-last problem q h.0 h.2 in
-    let w = slice_get_within q l.term.input.0 l.term.winner.0 l.made in
-    b.first k h.0 l.term h.1 h.2 l.last (omega arith)
+    by : (term : Term) → last_of h.0.terms ≡ Some term → next ≤ k
+    by (Loser input winner loser) last = let m = b.first k h.0 input winner loser h.1 h.2 last (omega arith) in let low = n.low in omega arith
+    by (Given j) last = nearest-first problem values q slots best next k h.0 (Given j) x h.1 h.2 last (subst (λ (d : ℕ). IsNearest values q slots d best next) here n)
 
 -- the first place that is found is that of the first value that cuts the prefix off
 pub first-is : (problem : Problem) (values : List C) (q : List ℕ) (first : ℕ) (value : C) → CutsOffAt problem values q first → slice_get values first ≡ Some value → ((k : ℕ) → CutsOffAt problem values q k → first ≤ k) → Some value ≡ value_for problem values q

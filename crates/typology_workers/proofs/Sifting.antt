@@ -13,7 +13,8 @@ use Rattle.refutation.specs.declared.contradiction.Contradiction.{Contradiction}
 use Rattle.refutation.specs.declared.term.Term.{Term}
 use Rattle.search_deeds.specs.Sieved.{AreMarked, AreMarks, IsMarkOf, IsSieve}
 use Rattle.search_deeds.proofs.Sieving.{AreMarks-none}
-use Rattle.typology_workers.specs.Indexed.{IsIndex, RefutesAt, slot_of, slots_with}
+use Rattle.typology_workers.specs.Indexed.{IsIndex, RefutesAt, slot_for, slots_with}
+use Rattle.typology_workers.proofs.Indexing.{slot_for-small}
 
 -- where there are no places
 pub marked-none : (certificates : List (List theory.Term)) (slots marks : List (List ℕ)) → length marks ≡ length slots → ((s : ℕ) → slice_index_or slots s [] ≡ []) → ((s : ℕ) → slice_index_or marks s [] ≡ []) → AreMarked certificates slots marks
@@ -44,11 +45,11 @@ marked-set certificates slots marks s k mark below its h =
       ];
     }
 
-pub marked-more : (certificates : List (List theory.Term)) (last : Option Term) (slots marks : List (List ℕ)) (k mark : ℕ) → 0 < length slots → IsMarkOf (slice_index_or certificates k []) mark → AreMarked certificates slots marks
+pub marked-more : (certificates : List (List theory.Term)) (last : Option Term) (slots marks : List (List ℕ)) (k mark : ℕ) → 1 < length slots → IsMarkOf (slice_index_or certificates k []) mark → AreMarked certificates slots marks
     → AreMarked certificates (slots_with last k slots) (slots_with last mark marks)
 marked-more certificates None slots marks k mark some its h = h
 marked-more certificates (Some term) slots marks k mark some its h =
-    rw h.long (marked-set certificates slots marks (slot_of (length slots) term.input.0 term.winner.0) k mark (omega arith) its h)
+    rw h.long (marked-set certificates slots marks (slot_for (length slots) term) k mark (slot_for-small (length slots) term some) its h)
 
 -- the terms of the value at a place
 pub certificate-at : (values : List Contradiction) (k : ℕ) (value : Contradiction) → slice_get values k ≡ Some value → slice_index_or (certificates_of values) k [] ≡ terms_in value.terms

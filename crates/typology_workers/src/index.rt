@@ -1,21 +1,22 @@
 //! An index of the values of a front that are contradictions of the problem, so that few of them are asked whether they refute a
 //! prefix.
 //!
-//! A contradiction that refutes a prefix has the winner of its last term in it. So it stands in the slot of one of the classes of the
-//! prefix. Several classes may share a slot. Beside the place of each stand the bits of the choices that it asks for: where the
-//! prefix lacks one of them, the contradiction is passed over unseen.
+//! A contradiction that refutes a prefix has the winner of its last term in it, or its last term is a given pair. So it stands in the
+//! slot of one of the classes of the prefix, or in the last slot, which is that of given pairs. Several classes may share a slot. Beside
+//! the place of each stand the bits of the choices that it asks for: where the prefix lacks one of them, the contradiction is passed over
+//! unseen.
 
 ghost use Rattle.std.specs.Prelude.{◌≡◌, ◌<◌, ◌≤◌, ℕ, [], length, slice_index, slice_index_or, IfOk, OnOk};
 ghost use Rattle.refutation.specs.Prefixes.{class_numbers};
 ghost use Rattle.refutation.specs.Terms.{terms_in};
 ghost use Rattle.refutation.specs.Typologies.{certificates_of};
-ghost use Rattle.search_deeds.specs.Sieved.{AreMarked, IsMarkOf, IsSieve};
+ghost use Rattle.search_deeds.specs.Sieved.{AreMarked, HasBits, IsMarkOf, IsSieve};
 ghost use Rattle.violation_profiles.specs.WellFormed.{IsPrefix};
-ghost use Rattle.typology_workers.specs.Indexed.{CutsOffAt, Has, IsIndex, RefutesAt, last_of, slot_of, slots_with};
+ghost use Rattle.typology_workers.specs.Indexed.{CutsOffAt, Has, IsIndex, RefutesAt, last_of, slot_for, slot_of, slots_with};
 
 use erc_vectors::{List, NoMemory};
 use ot_base::{ClassId, INPUT_LIMIT, InId};
-use refutation::{Contradiction, is_genuine, refutes};
+use refutation::{Contradiction, Term, is_genuine, refutes};
 use refutation_store::{Front, Store};
 use search_deeds::{bits_of, mark_of};
 use std::alloc::Global;
@@ -25,8 +26,8 @@ use violation_profiles::Problem;
 /// so that the classes of all inputs spread over any number of slots.
 const STRIDE: usize = 211;
 
-/// For each slot the places of the contradictions whose last term has its input and winner there, beside each the bits of the choices
-/// that it asks for, and how many values of the front are indexed.
+/// For each slot the places of the contradictions whose last term has its input and winner there, and for the last slot of those whose
+/// last term is a given pair; beside each the bits of the choices that it asks for; and how many values of the front are indexed.
 #[derive(Drop)]
 pub(crate) struct Index {
     pub(crate) slots: Vec<List<usize>>,
@@ -35,9 +36,9 @@ pub(crate) struct Index {
 }
 
 impl Index {
-    /// The index of no values, with a slot for each place of a store, and at least one.
+    /// The index of no values, with a slot for each place of a store, and at least one, and the slot of given pairs.
     pub(crate) fn new(alloc: Global, places: usize) -> Result<Index, NoMemory>
-        ensures some { IfOk result (λ index. 0 < length index.slots.items) }
+        ensures some { IfOk result (λ index. 1 < length index.slots.items) }
         ensures empty { IfOk result (λ index. (s : ℕ) → slice_index_or index.slots.items s [] ≡ []) }
         ensures unmarked { IfOk result (λ index. (s : ℕ) → slice_index_or index.marks.items s [] ≡ []) }
         ensures long { IfOk result (λ index. length index.marks.items ≡ length index.slots.items) }
@@ -45,7 +46,7 @@ impl Index {
     {
         let mut slots = Vec::new(alloc);
         let mut marks = Vec::new(alloc);
-        for _slot in 0..places.max(1) {
+        for _slot in 0..=places.max(1) {
             slots.push(List::new(alloc))?;
             marks.push(List::new(alloc))?;
         }
@@ -102,23 +103,45 @@ impl Index {
         let mut best = front.len();
         for i in (0..prefix.len()).rev() {
             let slot = slot_of(self.slots.len(), InId(i as u32), prefix[i]);
-            let places = self.slots[slot].as_slice();
-            let marks = self.marks[slot].as_slice();
-            best = nearest(store, front, prefix, bits, places, marks, best);
+            best = self.nearest_in(slot, store, front, prefix, bits, best);
         }
-        best
+        self.nearest_in(self.slots.len() - 1, store, front, prefix, bits, best)
+    }
+
+    /// The first of `best` and of the places in a slot whose value refutes the prefix, whose choices have these bits.
+    fn nearest_in(
+        &self,
+        slot: usize,
+        store: &Store,
+        front: &Front,
+        prefix: &[ClassId],
+        bits: u64,
+        best: usize,
+    ) -> usize
+        requires slot { slot < length self.now.slots.items }
+        requires store { front.now.store ≡ store.now }
+        requires marked { AreMarked (certificates_of front.now.values) self.now.slots.items self.now.marks.items }
+        requires bits { HasBits (class_numbers prefix.now) bits }
+        requires within { best ≤ length front.now.values }
+        ensures low { result ≤ best }
+        ensures hit { result < best → Has (slice_index_or self.now.slots.items slot []) result × RefutesAt front.now.values (class_numbers prefix.now) result }
+        ensures all { (k : ℕ) → Has (slice_index_or self.now.slots.items slot []) k → RefutesAt front.now.values (class_numbers prefix.now) k → result ≤ k }
+    {
+        let places = self.slots[slot].as_slice();
+        let marks = self.marks[slot].as_slice();
+        nearest(store, front, prefix, bits, places, marks, best)
     }
 
     /// Puts a place, and the bits of its value, into the slot of the last term of its value.
     fn add(&mut self, value: &Contradiction, place: usize) -> Result<(), NoMemory>
-        requires some { 0 < length self.old.slots.items }
+        requires some { 1 < length self.old.slots.items }
         requires long { length self.old.marks.items ≡ length self.old.slots.items }
         ensures slots { OnOk result (self.new.slots.items ≡ slots_with (last_of value.now.terms) place self.old.slots.items) }
         ensures marks { OnOk result ((mark : ℕ) × IsMarkOf (terms_in value.now.terms) mark × (self.new.marks.items ≡ slots_with (last_of value.now.terms) mark self.old.marks.items)) }
     {
         let mark = mark_of(value.terms.as_slice());
         if let Some(last) = value.terms.as_slice().last() {
-            let slot = slot_of(self.slots.len(), last.input, last.winner);
+            let slot = slot_for(self.slots.len(), last);
             self.slots[slot].push(place)?;
             self.marks[slot].push(mark)?;
         }
@@ -126,13 +149,25 @@ impl Index {
     }
 }
 
-/// The slot of a class of an input, of so many.
+/// The slot of a term, of so many: that of its winner, and the last one of a given pair.
+fn slot_for(slots: usize, term: &Term) -> usize
+    requires { 1 < slots }
+    ensures slot { result ≡ slot_for slots term.now }
+    ensures within { result < slots }
+{
+    match *term {
+        Term::Loser { input, winner, .. } => slot_of(slots, input, winner),
+        Term::Given(_) => slots - 1,
+    }
+}
+
+/// The slot of a class of an input, of so many, of which the last one is that of given pairs.
 fn slot_of(slots: usize, input: InId, class: ClassId) -> usize
-    requires { 0 < slots }
+    requires { 1 < slots }
     ensures slot { result ≡ slot_of slots input.0 class.0 }
     ensures within { result < slots }
 {
-    (input.0 as usize * STRIDE + class.0 as usize) % slots
+    (input.0 as usize * STRIDE + class.0 as usize) % (slots - 1)
 }
 
 /// The first of `best` and of those of these places whose value refutes the prefix, whose choices have these bits. Beside each place

@@ -74,8 +74,17 @@ impl Memo {
 }
 
 fn place_of(term: &Term) -> usize {
-    let winner = term.input.0 as usize * STRIDE + term.winner.0 as usize;
-    (winner * STRIDE + term.loser.0 as usize) % PLACES
+    match *term {
+        Term::Loser {
+            input,
+            winner,
+            loser,
+        } => {
+            let winner = input.0 as usize * STRIDE + winner.0 as usize;
+            (winner * STRIDE + loser.0 as usize) % PLACES
+        }
+        Term::Given(k) => k as usize % PLACES,
+    }
 }
 
 /// Whether classes begin a prefix and are not all of it.

@@ -47,16 +47,18 @@ pub(crate) struct Path {
 }
 
 impl Path {
-    /// The empty prefix.
-    #[tactic(auto, using(crate::proofs::Going::path_none))]
+    /// The empty prefix, which asks what the given pairs ask.
     pub(crate) fn start(alloc: Global, p: &Problem) -> Result<Path, NoMemory>
         ensures { IfOk result (IsPathOf p.now) }
     {
+        let ready = Ready::new(alloc, p)?;
+        let mut asked = Asked::nothing(alloc);
+        asked.append(&ready.givens)?;
         Ok(Path {
             steps: Vec::new(alloc),
-            asked: Asked::nothing(alloc),
+            asked,
             fronts: 0,
-            ready: Ready::new(alloc, p)?,
+            ready,
             memo: Memo::new(alloc)?,
         })
     }
@@ -87,7 +89,7 @@ impl Path {
     }
 
     /// Goes to a prefix of the problem.
-    #[tactic(auto, using(crate::proofs::Going::there_more, crate::proofs::Going::shorter_path, crate::proofs::Going::next_class, crate::proofs::Going::all_there))]
+    #[tactic(auto, using(crate::proofs::Going::shorter_path, crate::proofs::Going::all_there))]
     fn go_to(&mut self, alloc: Global, p: &Problem, prefix: &[ClassId]) -> Result<(), NoMemory>
         requires prefix { IsPrefix p.now (class_numbers prefix.now) }
         requires path { IsPathOf p.now self.old }
@@ -307,12 +309,15 @@ fn shorter(fronts: usize, terms: usize) -> usize
     if terms < fronts { terms + 1 } else { fronts }
 }
 
-/// How many classes there are up to that of the last term but one.
+/// How many classes there are up to that of the last term but one, and none where this is a given pair.
 fn classes_needed(terms: &[Term]) -> usize {
     if terms.len() < 2 {
         return 0;
     }
-    terms[terms.len() - 2].input.0 as usize + 1
+    match terms[terms.len() - 2] {
+        Term::Loser { input, .. } => input.0 as usize + 1,
+        Term::Given(_) => 0,
+    }
 }
 
 /// Adds what a class of an input asks, without what the others imply.
