@@ -1,5 +1,5 @@
 -- Worked examples: the definitions computed on small problems.
-use Rattle.std.proofs.Common.{◌≡◌, ℕ, List, [], ◌∷◌, map, refl, Some, None}
+use Rattle.std.proofs.Common.{◌≡◌, ℕ, List, [], ◌∷◌, map, refl, None}
 use Rattle.std.specs.Prelude.{true, false}
 use Rattle.ot_theory.specs.declared.Mark.TheVariants.{W, L, E}
 use Rattle.ot_theory.specs.Rankings.{rankings, put_somewhere}

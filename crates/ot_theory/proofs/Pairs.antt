@@ -1,5 +1,5 @@
 -- The condition that one constraint stands above another one, and the rankings that keep it.
-use Rattle.std.proofs.Common.{◌≡◌, ◌≢◌, ℕ, zero, suc, ◌+◌, ◌<◌, List, [], ◌∷◌, Bool, true, false, not, ◌==◌, arith, refl, sym, ◌∙◌, ap, cond, inl, inr, length, Option, Some, None, map}
+use Rattle.std.proofs.Common.{◌≡◌, ◌≢◌, ℕ, zero, suc, ◌+◌, ◌<◌, List, [], ◌∷◌, Bool, true, false, ◌==◌, arith, refl, sym, ◌∙◌, ap, cond, inl, inr, length, Option, Some}
 use Rattle.std.specs.Prelude.{All, nat_lt, slice_get}
 use Rattle.std.specs.List.{list_all, position_or_len, range_with_len}
 use Rattle.std.specs.Option.{option_map_or}
@@ -13,7 +13,7 @@ use Rattle.ot_theory.specs.declared.Mark.TheVariants.{W, L, E}
 use Rattle.ot_theory.specs.Rankings.{count_of, numbers_below, stands_before, IsRanking}
 use Rattle.ot_theory.specs.Conditions.{is_win, keeps, mark_at, over}
 use Rattle.ot_theory.specs.Problems.{Pair, Problem, IsPair, givens}
-use Rattle.ot_theory.specs.Languages.{Term, Given, condition_of, keeps_givens, terms_of_givens}
+use Rattle.ot_theory.specs.Languages.{Given, condition_of, keeps_givens, terms_of_givens}
 use Rattle.ot_theory.proofs.Enumeration.{count_past}
 
 pub length-over : (n c d : ℕ) → length (over n c d) ≡ n

@@ -1,18 +1,16 @@
 -- What the classes of a prefix ask: whether a ranking keeps it decides whether the prefix is refuted, and the least hierarchy and the
 -- certificate are those of the prefix.
-use Rattle.std.proofs.Common.{◌≡◌, ℕ, ◌+◌, ◌<◌, ◌≤◌, List, [], ◌++◌, true, arith, sym, ◌∙◌, ap, length, take, take_all, get_or, map}
+use Rattle.std.proofs.Common.{◌≡◌, ℕ, ◌+◌, ◌<◌, ◌≤◌, List, [], ◌++◌, true, arith, sym, ◌∙◌, ap, length, take, take_all, get_or}
 use Rattle.std.proofs.lemmas.List.{length-map, length-take, map_more}
 use Rattle.std.proofs.lemmas.List.Folds.{list_all-map}
 use Rattle.ot_base.specs.declared.tableau.ClassId.{ClassId}
 use Rattle.ot_theory.specs.declared.Mark.{Mark}
 use Rattle.ot_theory.specs.Hierarchies.{IsLeastHierarchy}
 use Rattle.ot_theory.specs.Problems.{Problem}
-use Rattle.ot_theory.specs.Languages as theory
-use Rattle.ot_theory.specs.Languages.{classes_at, condition_of, conditions_of, refuted, terms_of, terms_of_class, terms_of_givens}
+use Rattle.ot_theory.specs.Languages.{classes_at, conditions_of, refuted, terms_of, terms_of_class, terms_of_givens}
 use Rattle.ot_theory.specs.Refutations.{certificate_of, is_term, no_ranking_keeps, one_winner_each}
 use Rattle.ot_theory.proofs.Optimal.{refuted-conditions}
 use Rattle.ot_theory.proofs.Redundant.{IsReduced-certificate, IsReduced-hopeless, IsReduced-least}
-use Rattle.ot_theory.proofs.Sets.{is_hopeless}
 use Rattle.violation_profiles.proofs.Inputs.{AllFit-prefix}
 use Rattle.violation_profiles.specs.WellFormed.{IsPrefix, IsWellFormed}
 use Rattle.refutation.specs.Asked.{AreAsked}

@@ -1,9 +1,8 @@
 -- The terms of a prefix, a class after another. The prefix makes the winner choice of each, so each input has one winner in them.
-use Rattle.std.proofs.Common.{◌≡◌, ℕ, zero, suc, ◌+◌, ◌<◌, ◌≤◌, List, [], ◌∷◌, ◌++◌, Bool, true, false, not, ◌==◌, arith, refl, sym, ◌∙◌, ap, inl, inr, length, Option, Some, None, eq-eqb, take, take_all, get_or, flat_map}
+use Rattle.std.proofs.Common.{◌≡◌, ℕ, zero, suc, ◌+◌, ◌<◌, ◌≤◌, List, [], ◌∷◌, ◌++◌, Bool, true, not, ◌==◌, arith, refl, sym, ◌∙◌, ap, inl, inr, length, Some, eq-eqb, take, take_all, get_or, flat_map}
 use Rattle.std.specs.Prelude.{filter, slice_get, slice_index}
 use Rattle.std.specs.List.{list_all, range_with_len, enumerate_from}
-use Rattle.std.proofs.lemmas.Bool.{and_from, cases_Bool, lt-ltb, or_left, or_right}
-use Rattle.std.proofs.lemmas.Bool.Decides.{eqb_tells}
+use Rattle.std.proofs.lemmas.Bool.{and_from, cases_Bool, lt-ltb}
 use Rattle.std.proofs.lemmas.List.{append-nil, append_assoc, length-map, length-take, map_more}
 use Rattle.std.proofs.lemmas.List.Concat.{flat_map-append}
 use Rattle.std.proofs.lemmas.List.Folds.{list_all-append, list_all-map}
@@ -13,7 +12,7 @@ use Rattle.ot_theory.specs.Rankings.{numbers_below}
 use Rattle.ot_theory.specs.Problems.{Problem, givens}
 use Rattle.ot_theory.specs.Languages as theory
 use Rattle.ot_theory.specs.Languages.{Loser, Given, classes_at, refuted, terms_of, terms_of_class, terms_of_givens}
-use Rattle.ot_theory.specs.Refutations.{agree, certificate_of, is_term, one_winner_each, refutes}
+use Rattle.ot_theory.specs.Refutations.{certificate_of, is_term, one_winner_each, refutes}
 use Rattle.ot_theory.proofs.Certificates.{all-weaker, certificate-all}
 use Rattle.ot_theory.proofs.Optimal.{all-flat_map, refuted-conditions}
 use Rattle.ot_theory.proofs.Sets.{is_hopeless}

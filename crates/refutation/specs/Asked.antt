@@ -1,5 +1,5 @@
 -- What some terms ask of a ranking, without terms that earlier ones imply.
-use Rattle.std.specs.Prelude.{◌≡◌, Bool, List, [], ◌∷◌, ◌++◌, map, length, All, if◌then◌else◌}
+use Rattle.std.specs.Prelude.{◌≡◌, List, ◌++◌, map, length, All}
 use Rattle.ot_theory.specs.declared.Mark.{Mark}
 use Rattle.ot_theory.specs.Problems.{Problem}
 use Rattle.ot_theory.specs.Languages as theory

@@ -16,7 +16,7 @@ use Rattle.refutation.specs.declared.term.Term as rust
 use Rattle.search_deeds.specs.declared.blocks.Block.{Block}
 use Rattle.search_deeds.specs.declared.blocks.Row.{Row}
 use Rattle.search_deeds.specs.Admitted.{AreBlocked, AreBlocks, HaveRoom, IsAdmitted, IsAdmittedAt, IsAdmittedBy}
-use Rattle.search_deeds.proofs.Choices.{is_made, made_at, no_term, nothing, term-at}
+use Rattle.search_deeds.proofs.Choices.{is_made, no_term, nothing, term-at}
 
 -- ---- words of bits
 pub bit-kept : (word bit b : ℕ) → bit < 64 → bit_at word b ≡ 1 → bit_at (bit_or word (1 * 2 ^ bit % 2 ^ 64)) b ≡ 1

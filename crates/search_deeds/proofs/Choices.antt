@@ -1,12 +1,12 @@
 -- The last choice that the terms of a contradiction ask for; and that the index holds the places of all that refute a prefix.
-use Rattle.std.proofs.Common.{◌≡◌, ◌≢◌, ◌⊎◌, ℕ, zero, suc, ◌+◌, ◌*◌, ◌<◌, ◌≤◌, List, [], ◌∷◌, ◌++◌, Bool, true, false, not, ◌&&◌, ◌||◌, ◌==◌, arith, refl, sym, ◌∙◌, ap, inl, inr, length, take, set, get_or, slice_index, Option, Some, None}
-use Rattle.std.specs.Prelude.{All, Contains, nat_le, nat_lt, slice_get, slice_index_or}
+use Rattle.std.proofs.Common.{◌≡◌, ◌≢◌, ◌⊎◌, ℕ, zero, suc, ◌+◌, ◌*◌, ◌<◌, ◌≤◌, List, [], ◌∷◌, ◌++◌, Bool, true, false, not, ◌||◌, ◌==◌, arith, refl, sym, ◌∙◌, ap, inl, inr, length, take, set, get_or, slice_index, Option, Some, None}
+use Rattle.std.specs.Prelude.{All, Contains, nat_lt, slice_get, slice_index_or}
 use Rattle.std.specs.List.{list_all, list_any}
 use Rattle.std.specs.Option.{option_map_or}
-use Rattle.std.proofs.lemmas.Bool.{and_parts, and_from, cases_Bool, cases_lt, cases_eq, eq-eqb, le-leb, leb-true, eqb-true, not-true, or_cases, or_left, or_right, ltb-true}
-use Rattle.std.proofs.lemmas.List.{length-map, get_or-take, get_or-set_same, get_or-set_other, get_or_append_left, get_or_at, length-take-le, length_push, length-set, get_or_default, take_more, take_all, get_or-map}
-use Rattle.std.proofs.lemmas.List.Elements.{All-nil, All-head, All-tail, All-weaker, All-push, Contains-push, Contains-append_left}
-use Rattle.std.proofs.lemmas.List.Sums.{AllPass-from_list_all, position_or_len_is}
+use Rattle.std.proofs.lemmas.Bool.{and_parts, and_from, cases_Bool, cases_lt, cases_eq, eq-eqb, le-leb, leb-true, eqb-true, or_cases, or_left, or_right, ltb-true}
+use Rattle.std.proofs.lemmas.List.{length-map, get_or-take, get_or-set_same, get_or-set_other, get_or_append_left, get_or_at, length-take-le, length_push, length-set, get_or_default, get_or-map}
+use Rattle.std.proofs.lemmas.List.Elements.{All-nil, All-weaker, All-push, Contains-push, Contains-append_left}
+use Rattle.std.proofs.lemmas.List.Sums.{position_or_len_is}
 use Rattle.std.proofs.lemmas.List.Folds.{list_all-append, list_any-append}
 use Rattle.std.proofs.lemmas.Nat.{mul-add-lt}
 use Rattle.ot_theory.specs.Problems.{Problem}

@@ -3,15 +3,14 @@ use Rattle.std.proofs.Common.{◌≡◌, ◌≢◌, ◌⊎◌, ℕ, ◌*◌, ◌
 use Rattle.std.specs.Prelude.{◌==◌, All, slice_get}
 use Rattle.std.specs.Option.{option_map_or}
 use Rattle.std.specs.Int.{bit_at}
-use Rattle.std.proofs.lemmas.Bool.{eq-eqb, ne_eqb}
+use Rattle.std.proofs.lemmas.Bool.{ne_eqb}
 use Rattle.std.proofs.lemmas.Bool.Decides.{eqb_tells}
 use Rattle.std.proofs.lemmas.List.{length-map}
 use Rattle.std.proofs.lemmas.Nat.{one_shl}
 use Rattle.std.proofs.lemmas.Nat.Bits.{bit_at-pow_same, bit_at-pow_other}
 use Rattle.std.proofs.lemmas.Option.{get_or_from_slice_get, slice_get-get_or, slice_get-map, slice_get_within}
-use Rattle.ot_theory.specs.declared.Mark.{Mark}
 use Rattle.ot_theory.specs.declared.Mark.TheVariants.{W, L, E}
-use Rattle.ot_theory.specs.Conditions.{is_win, is_loss, mark_at, over}
+use Rattle.ot_theory.specs.Conditions.{is_win, is_loss, over}
 use Rattle.ot_theory.specs.Languages.{Given, condition_of}
 use Rattle.ot_theory.specs.Problems as theory
 use Rattle.ot_theory.specs.Problems.{IsPair, Problem, givens}

@@ -1,5 +1,5 @@
 -- Each term that is found joins those kept; where no ranking keeps these, they are the certificate.
-use Rattle.std.proofs.Common.{◌∙◌, ◌-◌, refl, sym, ap, arith, set}
+use Rattle.std.proofs.Common.{◌∙◌, ◌-◌, refl, ap, set}
 use Rattle.refutation.specs.Terms.{terms_in}
 use Rattle.refutation.proofs.Fronts.{certified, end_slice, needed, AreFront-end, AreFront-hopeless, AreFront-more, AreFront-start}
 use Rattle.refutation.proofs.certificate.core_of_conditions.Goals as goal

@@ -1,7 +1,5 @@
 -- Each class adds what it asks.
-use Rattle.std.proofs.Common.{[], arith, refl}
-use Rattle.refutation.specs.Asked.{AreAsked}
-use Rattle.refutation.specs.Prefixes.{class_numbers}
+use Rattle.std.proofs.Common.{[], arith}
 use Rattle.refutation.proofs.Asking.{asked-givens, asked-more, asked-prefix}
 use Rattle.refutation.proofs.Implied.{asked-nothing}
 use Rattle.refutation.proofs.refuting.asked_of.Goals as goal

@@ -1,6 +1,5 @@
-use Rattle.std.proofs.Common.{◌∙◌, ap, map, [], ◌∷◌, ◌++◌, sym}
+use Rattle.std.proofs.Common.{◌∙◌, ap, [], ◌∷◌, sym}
 use Rattle.std.proofs.lemmas.List.{map-append}
-use Rattle.ot_theory.specs.Languages as theory
 use Rattle.refutation.specs.declared.term.Term.TheVariants.{Given}
 use Rattle.refutation.specs.Terms.{term_of, terms_in}
 use Rattle.refutation.proofs.Implied.{givens-more}

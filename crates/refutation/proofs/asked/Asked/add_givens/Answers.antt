@@ -1,7 +1,7 @@
-use Rattle.std.proofs.Common.{◌≡◌, ◌∙◌, ◌++◌, ap, arith, length, map, sym}
+use Rattle.std.proofs.Common.{◌≡◌, ◌++◌, ap, arith, length, map}
 use Rattle.std.proofs.lemmas.List.{append-nil, length-map}
 use Rattle.ot_theory.specs.Languages as theory
-use Rattle.ot_theory.specs.Problems.{givens, Pair}
+use Rattle.ot_theory.specs.Problems.{givens}
 use Rattle.ot_base.specs.Tableaus.{pair_of}
 use Rattle.ot_theory.specs.Rankings.{numbers_below}
 use Rattle.refutation.proofs.Implied.{asked-given}

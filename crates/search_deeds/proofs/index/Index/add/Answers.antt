@@ -1,6 +1,6 @@
-use Rattle.std.proofs.Common.{◌≡◌, ◌<◌, ◌+◌, ◌*◌, ℕ, List, arith, length, ◌∙◌, ap, refl, subst, true, [], set}
+use Rattle.std.proofs.Common.{◌≡◌, ℕ, List, arith, length, ◌∙◌, ap, refl, subst, [], set}
 use Rattle.std.specs.Prelude.{slice_index_or}
-use Rattle.std.proofs.lemmas.List.{length-map, get_or_read}
+use Rattle.std.proofs.lemmas.List.{get_or_read}
 use Rattle.std.proofs.lemmas.Result.{on_ok_weaker}
 use Rattle.refutation.specs.Terms.{terms_in}
 use Rattle.search_deeds.specs.declared.blocks.Block.{Block}

@@ -1,4 +1,4 @@
-use Rattle.std.proofs.Common.{◌≡◌, ◌<◌, get_or, ◌-◌, ◌+◌, ◌*◌, ℕ, [], arith, length, sym, ◌∙◌, subst, slice_index, ap, suc, eqb-true}
+use Rattle.std.proofs.Common.{◌≡◌, ◌-◌, ◌+◌, ◌*◌, ℕ, [], arith, length, sym, ◌∙◌, subst, suc, eqb-true}
 use Rattle.std.proofs.lemmas.Bool.{eqb-false}
 use Rattle.std.specs.Prelude.{slice_index_or}
 use Rattle.std.proofs.lemmas.List.{length-map, nil_from_length}

@@ -1,8 +1,6 @@
 -- The pair of a number is one of the problem's.
-use Rattle.std.proofs.Common.{◌∙◌, sym, ap}
-use Rattle.ot_theory.specs.Conditions.{over}
+use Rattle.std.proofs.Common.{◌∙◌, sym}
 use Rattle.ot_theory.specs.Problems.{givens}
-use Rattle.ot_base.specs.Tableaus.{pair_of}
 use Rattle.violation_profiles.proofs.Pairs.{condition-given, pair_at, IsPair-at}
 use Rattle.violation_profiles.proofs.problem.Problem.given_condition.Goals as goal
 
