@@ -1,11 +1,11 @@
 -- Worked reports that are read, and faulty ones with the number of lines from the first that does not fit.
 use Rattle.std.proofs.Common.{◌≡◌, ℕ, [], ◌∷◌, refl}
 use Rattle.std.specs.Prelude.{codes, Result, Ok, Err}
-use Rattle.ot_theory.specs.Languages.{Term}
+use Rattle.ot_theory.specs.Languages.{Term, Loser}
 use Rattle.report_reader.specs.Grammar.{Found, report_at, head_at, input_at, languages_at, certificates_at, cuts_at}
 
 abbrev against : ℕ → ℕ → ℕ → Term
-against i a b = record { input = i; winner = a; loser = b }
+against i a b = Loser i a b
 
 abbrev read : Found → Result Found ℕ
 read found = Ok found

@@ -2,7 +2,7 @@
 use Rattle.std.specs.Prelude.{ℕ, ◌+◌, ◌-◌, ◌*◌, Bool, not, ◌&&◌, ◌||◌, ◌==◌, List, [], ◌∷◌, length, replicate, fold, nat_le, nat_lt, slice_index, slice_set, bytes_eq, codes, Option, Some, None, if◌then◌else◌}
 use Rattle.std.specs.List.{list_all, slice_split}
 use Rattle.report_reader.specs.declared.fields.TheConstants.{NUMBER_LIMIT}
-use Rattle.ot_theory.specs.Languages.{Term}
+use Rattle.ot_theory.specs.Languages.{Term, Loser}
 use denote.Ref.{Bor}
 
 infixl 10 ◌>>=◌
@@ -117,7 +117,7 @@ term_of_parts counts input winner loser = do
   i ← place (length counts) input
   a ← place (slice_index counts i) winner
   b ← place (slice_index counts i) loser
-  if a == b then None else Some (record { input = i; winner = a; loser = b })
+  if a == b then None else Some (Loser i a b)
 
 -- a term: an input, a colon, its winner, the sign >, and another class as the loser
 abbrev pub term_of : List ℕ → List ℕ → Option Term

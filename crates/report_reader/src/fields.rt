@@ -252,7 +252,7 @@ fn term_of(counts: &[u16], input: &[u8], winner: &[u8], loser: &[u8]) -> Option<
     if winner == loser {
         return None;
     }
-    Some(Term {
+    Some(Term::Loser {
         input: InId(i as u32),
         winner: ClassId(winner as u16),
         loser: ClassId(loser as u16),

@@ -8,7 +8,7 @@ use Rattle.ot_base.specs.declared.tableau.InputRows.{InputRows}
 use Rattle.ot_base.specs.declared.tableau.Tableau.{Tableau}
 use Rattle.ot_base.specs.Tableaus.{problem_of}
 use Rattle.ot_theory.specs.declared.Mark.TheVariants.{W, L, E}
-use Rattle.ot_theory.specs.Languages.{Term, classes_at}
+use Rattle.ot_theory.specs.Languages.{Term, Loser, classes_at}
 use Rattle.refutation.specs.declared.implication.Implication.{Implication}
 use Rattle.report_text.specs.Reports.{head, rank_report, contradiction_report, cut_line, typology_report}
 use Rattle.report_text.specs.Listings.{hasse_report, bases_report, torder_report}
@@ -67,7 +67,7 @@ codas = named (codes "NoCoda" ∷ codes "Max" ∷ codes "Dep" ∷ [])
     ∷ record { text = codes "tak"; candidates = candidate (codes "tak") 0 (1 ∷ 0 ∷ 0 ∷ []) ∷ candidate (codes "ta") 1000000000 (0 ∷ 1 ∷ 0 ∷ []) ∷ candidate (codes "ta.ki") 0 (0 ∷ 0 ∷ 1 ∷ []) ∷ [] } ∷ [])
 
 abbrev against : ℕ → ℕ → ℕ → Term
-against i a b = record { input = i; winner = a; loser = b }
+against i a b = Loser i a b
 
 pub contradiction_of_codas : contradiction_report (codes "rank") codas (problem_of codas) (against 0 0 1 ∷ against 1 1 0 ∷ []) ≡ codes "otsoft report 1\trank\nconstraints\t3\nconstraint\t1\tNoCoda\tNoCoda\nconstraint\t2\tMax\tMax\nconstraint\t3\tDep\tDep\ninputs\t2\ninput\t1\tpat\t3\nclass\t1.1\t1 0 0\tpat\nclass\t1.2\t0 1 0\tpa\nclass\t1.3\t0 0 1\tpa.ti\ninput\t2\ttak\t3\nclass\t2.1\t1 0 0\ttak\nclass\t2.2\t0 1 0\tta\nclass\t2.3\t0 0 1\tta.ki\nwinner\t1\t1\nwinner\t2\t2\ncontradiction\tLLe\t1:1>2 2:2>1\nend\n"
 unfolding contradiction_report head digits
@@ -154,7 +154,7 @@ languages = (0 ∷ [], 2 ∷ 1 ∷ []) ∷ (1 ∷ [], 1 ∷ 2 ∷ []) ∷ []
 
 -- the last candidate is harmonically bounded
 abbrev term : Term
-term = record { input = 0; winner = 2; loser = 0 }
+term = Loser 0 2 0
 
 abbrev certificates : List (List Term)
 certificates = (term ∷ []) ∷ []

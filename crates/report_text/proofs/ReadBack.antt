@@ -88,7 +88,7 @@ report-read tableau languages certificates cuts h plain printable short =
     ∙ report-chain n counts languages certificates cuts (top ++ (l ++ (c ++ (k ++ e)))) (l ++ (c ++ (k ++ e))) (c ++ (k ++ e)) (k ++ e) e
     (head-read tableau (l ++ (c ++ (k ++ e))) h plain)
     (languages-read problem languages (c ++ (k ++ e)) w h.some_name printable.each_language few_languages)
-    (certificates-read problem certificates (k ++ e) w printable.each_certificate few_certificates)
+    (certificates-read problem certificates (k ++ e) w refl printable.each_certificate few_certificates)
     (cuts-read problem (length certificates) cuts e w few_certificates printable.each_cut few_cuts)
     refl
 

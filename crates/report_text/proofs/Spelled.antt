@@ -6,7 +6,7 @@ use Rattle.std.proofs.lemmas.List.{append_assoc, length-map}
 use Rattle.std.proofs.lemmas.List.Elements.{All-head, All-tail, All-cons}
 use Rattle.ot_theory.specs.declared.Mark.{Mark}
 use Rattle.ot_theory.specs.declared.Mark.TheVariants.{W, L, E}
-use Rattle.ot_theory.specs.Languages.{Term}
+use Rattle.ot_theory.specs.Languages.{Term, Loser, Given}
 use Rattle.report_reader.specs.Fields.{words, pieces, classes, prefix_of, choice_of, is_letter, are_marks, is_digit, term_of, terms_of}
 use Rattle.report_text.specs.Spelling.{spaced, prefix, letter, marks, term, terms}
 use Rattle.report_text.proofs.Numerals.{NUMBER_LIMIT, place-decimal}
@@ -97,47 +97,59 @@ marks-lack c other list = lacks-other is_letter c other (marks list) (letters-ar
 
 -- ---- terms
 -- a class of an input against another one
-pub record IsTermOf (counts : List ℕ) (t : Term) : Type 0 where
-  pub input : t.input < length counts
-  pub winner : t.winner < get_or counts t.input 0
-  pub loser : t.loser < get_or counts t.input 0
-  pub differ : (t.winner == t.loser) ≡ false
+pub record IsLoserOf (counts : List ℕ) (i a b : ℕ) : Type 0 where
+  pub input : i < length counts
+  pub winner : a < get_or counts i 0
+  pub loser : b < get_or counts i 0
+  pub differ : (a == b) ≡ false
 
-term-parts : (t : Term) → term t ≡ decimal (t.input + 1) ++ 58 ∷ (decimal (t.winner + 1) ++ 62 ∷ decimal (t.loser + 1))
-term-parts t = simp append_assoc
+abbrev pub IsTermOf : List ℕ → Term → Type 0
+IsTermOf counts (Loser i a b) = IsLoserOf counts i a b
+IsTermOf counts (Given k) = ⊥
 
-pub term-lacks : (c : ℕ) → is_digit c ≡ false → (58 == c) ≡ false → (62 == c) ≡ false → (counts : List ℕ) (t : Term) → AreCounts counts → IsTermOf counts t → lacks c (term t) ≡ true
-term-lacks c digit colon sign counts t bounds h =
-    let i = lacks-decimal c (t.input + 1) digit (omega (arith, h.input, bounds.few)) in
-    let a = lacks-decimal c (t.winner + 1) digit (omega (arith, h.winner, bounds.small t.input)) in
-    let b = lacks-decimal c (t.loser + 1) digit (omega (arith, h.loser, bounds.small t.input)) in
-    let right = lacks-append c (decimal (t.winner + 1)) (62 ∷ decimal (t.loser + 1)) a (rw (sign, b) refl) in
-    rw (term-parts t) (lacks-append c (decimal (t.input + 1)) (58 ∷ (decimal (t.winner + 1) ++ 62 ∷ decimal (t.loser + 1))) i (rw colon right))
+loser-parts : (i a b : ℕ) → term (Loser i a b) ≡ decimal (i + 1) ++ 58 ∷ (decimal (a + 1) ++ 62 ∷ decimal (b + 1))
+loser-parts i a b = simp append_assoc
 
-pub term_of-term : (counts : List ℕ) (t : Term) → AreCounts counts → IsTermOf counts t → term_of counts (term t) ≡ Some t
-term_of-term counts t bounds h =
-    let few = bounds.small t.input in
-    let small_input : t.input + 1 ≤ NUMBER_LIMIT = omega (arith, h.input, bounds.few) in
-    let small_winner : t.winner + 1 ≤ NUMBER_LIMIT = omega (arith, h.winner, few) in
-    let small_loser : t.loser + 1 ≤ NUMBER_LIMIT = omega (arith, h.loser, few) in
-    let right = decimal (t.winner + 1) ++ 62 ∷ decimal (t.loser + 1) in
-    let plain : lacks 58 right ≡ true = lacks-append 58 (decimal (t.winner + 1)) (62 ∷ decimal (t.loser + 1)) (lacks-decimal 58 (t.winner + 1) refl small_winner) (lacks-decimal 58 (t.loser + 1) refl small_loser) in
-    let sides : pieces 58 (decimal (t.input + 1) ++ 58 ∷ right) ≡ decimal (t.input + 1) ∷ right ∷ [] =
-    pieces-first 58 (decimal (t.input + 1)) right (lacks-decimal 58 (t.input + 1) refl small_input) ∙ ap (λ (others : List (List ℕ)). decimal (t.input + 1) ∷ others) (pieces-alone 58 right plain)
+loser-lacks : (c : ℕ) → is_digit c ≡ false → (58 == c) ≡ false → (62 == c) ≡ false → (counts : List ℕ) (i a b : ℕ) → AreCounts counts → IsLoserOf counts i a b → lacks c (term (Loser i a b)) ≡ true
+loser-lacks c digit colon sign counts i a b bounds h =
+    let input = lacks-decimal c (i + 1) digit (omega (arith, h.input, bounds.few)) in
+    let winner = lacks-decimal c (a + 1) digit (omega (arith, h.winner, bounds.small i)) in
+    let loser = lacks-decimal c (b + 1) digit (omega (arith, h.loser, bounds.small i)) in
+    let right = lacks-append c (decimal (a + 1)) (62 ∷ decimal (b + 1)) winner (rw (sign, loser) refl) in
+    rw (loser-parts i a b) (lacks-append c (decimal (i + 1)) (58 ∷ (decimal (a + 1) ++ 62 ∷ decimal (b + 1))) input (rw colon right))
+
+loser-read : (counts : List ℕ) (i a b : ℕ) → AreCounts counts → IsLoserOf counts i a b → term_of counts (term (Loser i a b)) ≡ Some (Loser i a b)
+loser-read counts i a b bounds h =
+    let few = bounds.small i in
+    let small_input : i + 1 ≤ NUMBER_LIMIT = omega (arith, h.input, bounds.few) in
+    let small_winner : a + 1 ≤ NUMBER_LIMIT = omega (arith, h.winner, few) in
+    let small_loser : b + 1 ≤ NUMBER_LIMIT = omega (arith, h.loser, few) in
+    let right = decimal (a + 1) ++ 62 ∷ decimal (b + 1) in
+    let plain : lacks 58 right ≡ true = lacks-append 58 (decimal (a + 1)) (62 ∷ decimal (b + 1)) (lacks-decimal 58 (a + 1) refl small_winner) (lacks-decimal 58 (b + 1) refl small_loser) in
+    let sides : pieces 58 (decimal (i + 1) ++ 58 ∷ right) ≡ decimal (i + 1) ∷ right ∷ [] =
+    pieces-first 58 (decimal (i + 1)) right (lacks-decimal 58 (i + 1) refl small_input) ∙ ap (λ (others : List (List ℕ)). decimal (i + 1) ∷ others) (pieces-alone 58 right plain)
     in
-    let both : pieces 62 right ≡ decimal (t.winner + 1) ∷ decimal (t.loser + 1) ∷ [] =
-    pieces-first 62 (decimal (t.winner + 1)) (decimal (t.loser + 1)) (lacks-decimal 62 (t.winner + 1) refl small_winner)
-    ∙ ap (λ (others : List (List ℕ)). decimal (t.winner + 1) ∷ others) (pieces-alone 62 (decimal (t.loser + 1)) (lacks-decimal 62 (t.loser + 1) refl small_loser))
+    let both : pieces 62 right ≡ decimal (a + 1) ∷ decimal (b + 1) ∷ [] =
+    pieces-first 62 (decimal (a + 1)) (decimal (b + 1)) (lacks-decimal 62 (a + 1) refl small_winner)
+    ∙ ap (λ (others : List (List ℕ)). decimal (a + 1) ∷ others) (pieces-alone 62 (decimal (b + 1)) (lacks-decimal 62 (b + 1) refl small_loser))
     in
     rw (
-      term-parts t,
+      loser-parts i a b,
       sides,
       both,
-      place-decimal (length counts) t.input h.input bounds.few,
-      place-decimal (get_or counts t.input 0) t.winner h.winner few,
-      place-decimal (get_or counts t.input 0) t.loser h.loser few,
+      place-decimal (length counts) i h.input bounds.few,
+      place-decimal (get_or counts i 0) a h.winner few,
+      place-decimal (get_or counts i 0) b h.loser few,
       h.differ,
     ) refl
+
+pub term-lacks : (c : ℕ) → is_digit c ≡ false → (58 == c) ≡ false → (62 == c) ≡ false → (counts : List ℕ) (t : Term) → AreCounts counts → IsTermOf counts t → lacks c (term t) ≡ true
+term-lacks c digit colon sign counts (Loser i a b) bounds h = loser-lacks c digit colon sign counts i a b bounds h
+term-lacks c digit colon sign counts (Given k) bounds h = absurd h
+
+pub term_of-term : (counts : List ℕ) (t : Term) → AreCounts counts → IsTermOf counts t → term_of counts (term t) ≡ Some t
+term_of-term counts (Loser i a b) bounds h = loser-read counts i a b bounds h
+term_of-term counts (Given k) bounds h = absurd h
 
 terms-spelled : (counts : List ℕ) (list : List Term) → AreCounts counts → All (IsTermOf counts) list → terms_of counts (map term list) ≡ Some list
 terms-spelled counts [] bounds each = refl

@@ -1,5 +1,5 @@
 -- The lines of languages, certificates and cuts are read.
-use Rattle.std.proofs.Common.{◌≡◌, ℕ, zero, suc, ◌+◌, ◌≤◌, true, not, ◌&&◌, ◌==◌, List, [], ◌∷◌, ◌++◌, Ok, All, length, map, flat_map, decimal, get_or, nat_lt, codes, length-append, arith, refl, sym, ◌∙◌}
+use Rattle.std.proofs.Common.{◌≡◌, ℕ, zero, suc, ◌+◌, ◌≤◌, true, not, ◌&&◌, ◌==◌, List, [], ◌∷◌, ◌++◌, Ok, All, length, map, flat_map, decimal, get_or, nat_lt, codes, length-append, arith, refl, sym, ap, ◌∙◌}
 use Rattle.std.specs.Prelude.{slice_get}
 use Rattle.std.specs.List.{enumerate_from}
 use Rattle.std.specs.Option.{option_map_or}
@@ -9,8 +9,8 @@ use Rattle.std.proofs.lemmas.List.Elements.{All-head, All-tail, All-weaker}
 use Rattle.std.proofs.lemmas.List.FromFn.{length-map-range_with_len}
 use Rattle.ot_theory.specs.declared.Mark.{Mark}
 use Rattle.ot_theory.specs.Conditions.{fusion, fused, mark_at}
-use Rattle.ot_theory.specs.Languages.{Term, classes_at, condition_of}
-use Rattle.ot_theory.specs.Problems.{Problem, Input}
+use Rattle.ot_theory.specs.Languages.{Term, Loser, Given, classes_at, condition_of}
+use Rattle.ot_theory.specs.Problems.{Problem, Input, Pair, givens}
 use Rattle.ot_theory.specs.Refutations.{is_term}
 use Rattle.violation_profiles.specs.WellFormed.{IsWellFormed, IsWellFormedInput, IsPrefix}
 use Rattle.report_reader.specs.Grammar.{◌>>=◌, Reading, line_at, each_at, languages_at, certificates_at, cuts_at}
@@ -66,21 +66,21 @@ are-class-numbers problem numbers h = record {
   within = λ i below. omega (arith, count-at problem.inputs i, h.within i below);
 }
 
-is-term-of : (problem : Problem) (t : Term) → is_term problem t ≡ true → IsTermOf (counts_of problem.inputs) t
-is-term-of problem t h =
-    let i = nat_lt t.input (length problem.inputs) in
-    let a = nat_lt t.winner (length (classes_at problem t.input)) in
-    let b = nat_lt t.loser (length (classes_at problem t.input)) in
-    let other = not (t.loser == t.winner) in
-    let last = and_parts (i && a && b) other h in
-    let third = and_parts (i && a) b last.0 in
-    let first = and_parts i a third.0 in
-    let at = count-at problem.inputs t.input in
+is-term-of : (problem : Problem) → givens problem ≡ [] → (t : Term) → is_term problem t ≡ true → IsTermOf (counts_of problem.inputs) t
+is-term-of problem none (Given k) h = absurd (omega (arith, ltb-true k (length (givens problem)) h, ap (λ (pairs : List Pair). length pairs) none))
+is-term-of problem none (Loser i a b) h =
+    let input = nat_lt i (length problem.inputs) in
+    let winner = nat_lt a (length (classes_at problem i)) in
+    let loser = nat_lt b (length (classes_at problem i)) in
+    let last = and_parts (input && winner && loser) (not (b == a)) h in
+    let third = and_parts (input && winner) loser last.0 in
+    let first = and_parts input winner third.0 in
+    let at = count-at problem.inputs i in
     record {
-      input = omega (arith, ltb-true t.input (length problem.inputs) first.0, length-map problem.inputs (λ (input : Input). length input.classes));
-      winner = omega (arith, ltb-true t.winner (length (classes_at problem t.input)) first.1, at);
-      loser = omega (arith, ltb-true t.loser (length (classes_at problem t.input)) third.1, at);
-      differ = ne_eqb t.winner t.loser (λ e. eqb-false t.loser t.winner (not-true (t.loser == t.winner) last.1) (sym e));
+      input = omega (arith, ltb-true i (length problem.inputs) first.0, length-map problem.inputs (λ (input : Input). length input.classes));
+      winner = omega (arith, ltb-true a (length (classes_at problem i)) first.1, at);
+      loser = omega (arith, ltb-true b (length (classes_at problem i)) third.1, at);
+      differ = ne_eqb a b (λ e. eqb-false b a (not-true (b == a) last.1) (sym e));
     }
 
 -- ---- languages
@@ -112,25 +112,25 @@ languages-read problem languages rest w some each few =
 fusion-wide : (n : ℕ) (set : List (List Mark)) → length (fusion n set) ≡ n
 fusion-wide n set = length-map-range_with_len (λ c. fused (map (λ marks. mark_at marks c) set)) 0 n
 
-certificate-read : (problem : Problem) → IsWellFormed problem
+certificate-read : (problem : Problem) → IsWellFormed problem → givens problem ≡ []
     → IsEachRead (λ k. line_at (shapes.certificate_line problem.constraints (counts_of problem.inputs) k)) (λ p. reports.certificate_line problem p.0 p.1) (λ list. list) (IsCertificate problem) NUMBER_LIMIT
-certificate-read problem w j list rest small h =
+certificate-read problem w none j list rest small h =
     let n = problem.constraints in
     let counts = counts_of problem.inputs in
     let bounds = are-counts problem w in
     let fusion_marks = fusion n (map (condition_of problem) list) in
-    let each = All-weaker (λ t. is_term problem t ≡ true) (IsTermOf counts) (is-term-of problem) list h.each in
+    let each = All-weaker (λ t. is_term problem t ≡ true) (IsTermOf counts) (is-term-of problem none) list h.each in
     let value = numbered-joined (codes "certificate") j (marks fusion_marks) (terms list) refl (marks-lack 9 refl fusion_marks) (terms-lack 9 refl refl refl refl counts list bounds each) small in
     line_at-value (shapes.certificate_line n counts j) (codes "certificate" ∷ decimal j ∷ marks fusion_marks ∷ terms list ∷ []) rest list
     (rw (lacks-decimal 10 j refl small, marks-lack 10 refl fusion_marks, terms-lack 10 refl refl refl refl counts list bounds each) refl)
     (rw (value, are_marks-marks n fusion_marks (fusion-wide n (map (condition_of problem) list))) (terms_of-terms counts list h.some_term bounds each))
 
-pub certificates-read : (problem : Problem) (certificates : List (List Term)) (rest : List ℕ) → IsWellFormed problem → All (IsCertificate problem) certificates → length certificates ≤ NUMBER_LIMIT
+pub certificates-read : (problem : Problem) (certificates : List (List Term)) (rest : List ℕ) → IsWellFormed problem → givens problem ≡ [] → All (IsCertificate problem) certificates → length certificates ≤ NUMBER_LIMIT
     → certificates_at problem.constraints (counts_of problem.inputs) (reports.certificate_lines problem certificates ++ rest) ≡ Ok (certificates, rest)
 unfolding certificates_at
-certificates-read problem certificates rest w each few =
+certificates-read problem certificates rest w none each few =
     block-read (codes "certificates") (λ k. line_at (shapes.certificate_line problem.constraints (counts_of problem.inputs) k)) (λ p. reports.certificate_line problem p.0 p.1) (IsCertificate problem) refl refl
-    (certificate-read problem w) certificates each few rest
+    (certificate-read problem w none) certificates each few rest
 
 -- ---- cuts
 cut-read : (problem : Problem) (certificates : ℕ) → IsWellFormed problem → certificates ≤ NUMBER_LIMIT

@@ -4,7 +4,7 @@ use Rattle.std.specs.List.{join_with_byte, join_by, range_with_len}
 use Rattle.ot_theory.specs.declared.Mark.{Mark}
 use Rattle.ot_theory.specs.declared.Mark.TheVariants.{W, L, E}
 use Rattle.ot_theory.specs.Hierarchies.{in_stratum}
-use Rattle.ot_theory.specs.Languages.{Term}
+use Rattle.ot_theory.specs.Languages.{Term, Loser, Given}
 
 -- a line of fields with a tab between each two
 abbrev pub line : List (List ℕ) → List ℕ
@@ -68,9 +68,10 @@ letter E = 101
 abbrev pub marks : List Mark → List ℕ
 marks list = map letter list
 
--- an input, a colon, its winner, the sign >, and the loser, all counted from 1
+-- an input, a colon, its winner, the sign >, and the loser, all counted from 1; or the letter g and a given pair, counted from 1
 abbrev pub term : Term → List ℕ
-term t = decimal (t.input + 1) ++ codes ":" ++ decimal (t.winner + 1) ++ codes ">" ++ decimal (t.loser + 1)
+term (Loser i a b) = decimal (i + 1) ++ codes ":" ++ decimal (a + 1) ++ codes ">" ++ decimal (b + 1)
+term (Given k) = codes "g" ++ decimal (k + 1)
 
 -- terms with a space between each two
 abbrev pub terms : List Term → List ℕ

@@ -2,13 +2,14 @@
 
 ghost use Rattle.std.specs.Prelude.{◌≡◌, ◌∷◌, ◌++◌, ◌<◌, length, map, take, IsTrue, OnOk};
 ghost use Rattle.ot_theory.specs.Conditions.{fusion};
-ghost use Rattle.ot_theory.specs.Languages.{condition_of};
+ghost use Rattle.ot_theory.specs.Languages.{Loser, condition_of};
 ghost use Rattle.refutation.specs.Terms.{are_terms, terms_in, term_of};
 ghost use Rattle.report_text.specs.Spelling as spelling;
 
 use crate::text::{Text, write_behind};
 use erc_vectors::{ConId, Condition, LIMIT, Mark, NoMemory};
 use itoa::write_digits;
+use ot_base::{ClassId, InId};
 use refutation::{Term, fusion_of};
 use violation_profiles::Problem;
 
@@ -67,14 +68,27 @@ fn put_terms(text: &mut Text, terms: &[Term]) -> Result<(), NoMemory>
     Ok(())
 }
 
-/// A term: its input, its winner and its loser, by their numbers from 1 on. They are put together from the last to the first,
-/// and written at once.
+/// A term: its input, its winner and its loser, by their numbers from 1 on; or the number of a given pair behind a `g`.
 pub(crate) fn put_term(text: &mut Text, term: &Term) -> Result<(), NoMemory>
     ensures { OnOk result (text.new ≡ text.old ++ spelling.term (term_of term.now)) }
 {
+    match *term {
+        Term::Loser {
+            input,
+            winner,
+            loser,
+        } => put_loser(text, input, winner, loser),
+        Term::Given(k) => text.byte_and_number(b'g', k as usize + 1),
+    }
+}
+
+/// A class of an input against another one. The numbers are put together from the last to the first, and written at once.
+fn put_loser(text: &mut Text, input: InId, winner: ClassId, loser: ClassId) -> Result<(), NoMemory>
+    ensures { OnOk result (text.new ≡ text.old ++ spelling.term (Loser input.0 winner.0 loser.0)) }
+{
     let mut bytes = [b' '; 48];
-    let loser = write_behind(b'>', term.loser.0 as u64 + 1, &mut bytes, 24);
-    let winner = write_behind(b':', term.winner.0 as u64 + 1, &mut bytes, loser);
-    let start = write_digits(term.input.0 as u64 + 1, &mut bytes, winner);
+    let loser = write_behind(b'>', loser.0 as u64 + 1, &mut bytes, 24);
+    let winner = write_behind(b':', winner.0 as u64 + 1, &mut bytes, loser);
+    let start = write_digits(input.0 as u64 + 1, &mut bytes, winner);
     text.put_front(&bytes[start..start + 24], 24 - start)
 }

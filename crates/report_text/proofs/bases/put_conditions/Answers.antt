@@ -2,6 +2,7 @@ use Rattle.std.proofs.Common.{[], ◌∷◌, length, get_or, codes, decimal, fla
 use Rattle.std.specs.List.{enumerate_from}
 use Rattle.std.proofs.lemmas.List.{length-map, get_or-map}
 use Rattle.refutation.specs.declared.term.Term.{Term}
+use Rattle.refutation.specs.declared.term.Term.TheVariants.{Loser}
 use Rattle.refutation.specs.Terms.{term_of, terms_in}
 use Rattle.report_text.specs.Spelling.{line}
 use Rattle.report_text.proofs.Grown.{numbered_more}
@@ -9,7 +10,7 @@ use Rattle.report_text.proofs.bases.put_conditions.Invariants.{condition_line}
 use Rattle.report_text.proofs.bases.put_conditions.Goals as goal
 
 abbrev none : Term
-none = record { input = record { 0 = 0 }; winner = record { 0 = 0 }; loser = record { 0 = 0 } }
+none = Loser (record { 0 = 0 }) (record { 0 = 0 }) (record { 0 = 0 })
 
 pub loop-k-preserved : goal.loop-k-preserved
 loop-k-preserved c =

@@ -1,13 +1,14 @@
 use Rattle.std.proofs.Common.{◌≡◌, ℕ, ◌+◌, ◌<◌, List, [], ◌∷◌, ◌++◌, length, get_or, take, cond, eqb, arith, append_assoc}
 use Rattle.std.proofs.lemmas.List.{length-map, get_or-map}
 use Rattle.refutation.specs.declared.term.Term.{Term}
+use Rattle.refutation.specs.declared.term.Term.TheVariants.{Loser}
 use Rattle.refutation.specs.Terms.{term_of, terms_in}
 use Rattle.report_text.specs.Spelling.{term, terms}
 use Rattle.report_text.proofs.Spaced.{joined_more}
 use Rattle.report_text.proofs.terms.put_terms.Goals as goal
 
 abbrev none : Term
-none = record { input = record { 0 = 0 }; winner = record { 0 = 0 }; loser = record { 0 = 0 } }
+none = Loser (record { 0 = 0 }) (record { 0 = 0 }) (record { 0 = 0 })
 
 -- the terms that are written, and one more
 next_term : (list : List Term) (k : ℕ) → k < length list → terms (take (k + 1) (terms_in list)) ≡ terms (take k (terms_in list)) ++ (cond (eqb k 0) [] (32 ∷ []) ++ term (term_of (get_or list k none)))
