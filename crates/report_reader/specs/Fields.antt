@@ -1,8 +1,9 @@
 -- What the fields of a report spell: numbers, classes by input, hierarchies, marks and terms.
 use Rattle.std.specs.Prelude.{ℕ, ◌+◌, ◌-◌, ◌*◌, Bool, not, ◌&&◌, ◌||◌, ◌==◌, List, [], ◌∷◌, length, replicate, fold, nat_le, nat_lt, slice_index, slice_set, bytes_eq, codes, Option, Some, None, if◌then◌else◌}
 use Rattle.std.specs.List.{list_all, slice_split}
+use Rattle.std.specs.Option.{option_map}
 use Rattle.report_reader.specs.declared.fields.TheConstants.{NUMBER_LIMIT}
-use Rattle.ot_theory.specs.Languages.{Term, Loser}
+use Rattle.ot_theory.specs.Languages.{Term, Loser, Given}
 use denote.Ref.{Bor}
 
 infixl 10 ◌>>=◌
@@ -119,17 +120,26 @@ term_of_parts counts input winner loser = do
   b ← place (slice_index counts i) loser
   if a == b then None else Some (Loser i a b)
 
--- a term: an input, a colon, its winner, the sign >, and another class as the loser
-abbrev pub term_of : List ℕ → List ℕ → Option Term
-term_of counts word = do
+-- an input, a colon, its winner, the sign >, and another class as the loser
+abbrev pub loser_of : List ℕ → List ℕ → Option Term
+loser_of counts word = do
   sides ← two (pieces 58 word)
   classes ← two (pieces 62 sides.1)
   term_of_parts counts sides.0 classes.0 classes.1
 
+-- the number of one of so many given pairs
+abbrev pub given_of : ℕ → List ℕ → Option Term
+given_of pairs word = option_map Given (place pairs word)
+
+-- a term: the letter g and the number of a given pair, or a class of an input against another one
+abbrev pub term_of : List ℕ → ℕ → List ℕ → Option Term
+term_of counts pairs [] = loser_of counts []
+term_of counts pairs (b ∷ others) = if b == 103 then given_of pairs others else loser_of counts (b ∷ others)
+
 -- terms, at least one
-abbrev pub terms_of : List ℕ → List (List ℕ) → Option (List Term)
-terms_of counts [] = Some []
-terms_of counts (word ∷ others) = do
-  term ← term_of counts word
-  rest ← terms_of counts others
+abbrev pub terms_of : List ℕ → ℕ → List (List ℕ) → Option (List Term)
+terms_of counts pairs [] = Some []
+terms_of counts pairs (word ∷ others) = do
+  term ← term_of counts pairs word
+  rest ← terms_of counts pairs others
   Some (term ∷ rest)

@@ -3,12 +3,12 @@ use Rattle.std.specs.Prelude.{◌≡◌, ℕ, zero, suc, ◌+◌, ◌-◌, Bool,
 use Rattle.std.specs.List.{position_or_len, before_first, after_first}
 use Rattle.std.specs.Option.{option_map, ok_or}
 use Rattle.erc_vectors.specs.declared.condition.TheConstants.{LIMIT}
-use Rattle.ot_base.specs.declared.limits.TheConstants.{INPUT_LIMIT}
+use Rattle.ot_base.specs.declared.limits.TheConstants.{INPUT_LIMIT, GIVEN_LIMIT}
 use Rattle.ot_theory.specs.Languages.{Term}
 use Rattle.refutation.specs.Typologies.{found_of, cuts_of, certificates_of}
 use Rattle.refutation.specs.declared.typology.Typology.{Typology}
 use Rattle.report_reader.specs.Fields.{pieces}
-use Rattle.report_reader.specs.Shapes.{is_title, count_line, some_line, is_constraint, input_line, is_class, language_line, certificate_line, cut_line, is_end}
+use Rattle.report_reader.specs.Shapes.{is_title, count_line, some_line, is_constraint, few_line, is_given, input_line, is_class, language_line, certificate_line, cut_line, is_end}
 use Rattle.report_reader.specs.declared.misread.Misread.{Misread}
 use Rattle.report_reader.specs.declared.misread.Misread.TheVariants as misreads
 use Rattle.report_reader.specs.declared.reading.TextError.{TextError}
@@ -69,25 +69,38 @@ input_at n i bytes = do
   lines ← tests_at (is_class n i) 1 count.0 count.1
   Ok (count.0, lines.1)
 
--- the constraints, and then the inputs: the number of constraints, and the numbers of classes by input
-unfoldable pub head_at : List ℕ → Reading (ℕ × List ℕ)
+-- the lines of the given pairs behind that of their number, which is the value; none are there without that line
+abbrev pub pairs_behind : ℕ → List ℕ → Option (ℕ × List ℕ) → Reading ℕ
+pairs_behind n bytes None = Ok (0, bytes)
+pairs_behind n bytes (Some (count, rest)) = do
+  lines ← tests_at (is_given n) 1 count rest
+  Ok (count, lines.1)
+
+-- the block of given pairs, which may be absent
+unfoldable pub givens_at : ℕ → List ℕ → Reading ℕ
+givens_at n bytes = pairs_behind n bytes (valued (few_line (codes "givens") GIVEN_LIMIT) (first_line bytes))
+
+-- the constraints, then the inputs, and then the given pairs: the number of constraints, the numbers of classes by input, and the
+-- number of given pairs
+unfoldable pub head_at : List ℕ → Reading ((ℕ × List ℕ) × ℕ)
 head_at bytes = do
   title ← test_at is_title bytes
   n ← line_at (some_line (codes "constraints") LIMIT) title.1
   constraints ← tests_at is_constraint 1 n.0 n.1
   m ← line_at (some_line (codes "inputs") INPUT_LIMIT) constraints.1
   counts ← each_at (input_at n.0) 1 m.0 m.1
-  Ok ((n.0, counts.0), counts.1)
+  pairs ← givens_at n.0 counts.1
+  Ok (((n.0, counts.0), pairs.0), pairs.1)
 
 unfoldable pub languages_at : ℕ → List ℕ → List ℕ → Reading (List (List ℕ × List ℕ))
 languages_at n counts bytes = do
   number ← line_at (count_line (codes "languages")) bytes
   each_at (λ k. line_at (language_line n counts k)) 1 number.0 number.1
 
-unfoldable pub certificates_at : ℕ → List ℕ → List ℕ → Reading (List (List Term))
-certificates_at n counts bytes = do
+unfoldable pub certificates_at : ℕ → List ℕ → ℕ → List ℕ → Reading (List (List Term))
+certificates_at n counts pairs bytes = do
   number ← line_at (count_line (codes "certificates")) bytes
-  each_at (λ k. line_at (certificate_line n counts k)) 1 number.0 number.1
+  each_at (λ k. line_at (certificate_line n counts pairs k)) 1 number.0 number.1
 
 unfoldable pub cuts_at : List ℕ → ℕ → List ℕ → Reading (List (List ℕ × ℕ))
 cuts_at counts certificates bytes = do
@@ -105,9 +118,9 @@ pub record Found : Type 0 where
 unfoldable pub report_at : List ℕ → Result Found ℕ
 report_at bytes = do
   head ← head_at bytes
-  languages ← languages_at head.0.0 head.0.1 head.1
-  certificates ← certificates_at head.0.0 head.0.1 languages.1
-  cuts ← cuts_at head.0.1 (length certificates.0) certificates.1
+  languages ← languages_at head.0.0.0 head.0.0.1 head.1
+  certificates ← certificates_at head.0.0.0 head.0.0.1 head.0.1 languages.1
+  cuts ← cuts_at head.0.0.1 (length certificates.0) certificates.1
   last ← test_at is_end cuts.1
   if length last.1 == 0 then Ok (record { languages = languages.0; certificates = certificates.0; cuts = cuts.0 }) else Err (line_count last.1)
 

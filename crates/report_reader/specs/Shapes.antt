@@ -1,5 +1,5 @@
 -- The lines of a typology's report, by their fields.
-use Rattle.std.specs.Prelude.{ℕ, Bool, false, ◌&&◌, ◌==◌, List, [], ◌∷◌, length, nat_le, bytes_eq, codes, Option, Some, None, if◌then◌else◌}
+use Rattle.std.specs.Prelude.{ℕ, Bool, false, not, ◌&&◌, ◌==◌, List, [], ◌∷◌, length, nat_le, bytes_eq, codes, Option, Some, None, if◌then◌else◌}
 use Rattle.std.specs.List.{list_all}
 use Rattle.std.specs.Option.{option_map_or}
 use Rattle.ot_base.specs.declared.limits.TheConstants.{CANDIDATE_LIMIT}
@@ -42,9 +42,23 @@ some_line word limit line = do
   count ← count_line word line
   if nat_le 1 count && nat_le count limit then Some count else None
 
+-- such a line with a number up to a limit
+abbrev pub few_line : List ℕ → ℕ → List ℕ → Option ℕ
+few_line word limit line = do
+  count ← count_line word line
+  if nat_le count limit then Some count else None
+
 -- the line of constraint k: its abbreviation and its name
 abbrev pub is_constraint : ℕ → List ℕ → Bool
 is_constraint k line = option_map_or (λ texts. is_text texts.0 && is_text texts.1) (numbered (codes "constraint") k line) false
+
+-- the numbers of two different ones of n constraints
+abbrev pub are_two : ℕ → List ℕ → List ℕ → Bool
+are_two n above below = option_map_or (λ c. option_map_or (λ d. not (c == d)) (place n below) false) (place n above) false
+
+-- the line of given pair k: its upper and its lower constraint
+abbrev pub is_given : ℕ → ℕ → List ℕ → Bool
+is_given n k line = option_map_or (λ pair. are_two n pair.0 pair.1) (numbered (codes "given") k line) false
 
 -- the line of input i: its text, and its number of classes, which is the value
 abbrev pub input_line : ℕ → List ℕ → Option ℕ
@@ -90,10 +104,10 @@ language_line n counts k line = do
   Some (choice, strata)
 
 -- the line of certificate k: the marks of its fusion, and its terms
-abbrev pub certificate_line : ℕ → List ℕ → ℕ → List ℕ → Option (List Term)
-certificate_line n counts k line = do
+abbrev pub certificate_line : ℕ → List ℕ → ℕ → ℕ → List ℕ → Option (List Term)
+certificate_line n counts pairs k line = do
   parts ← numbered (codes "certificate") k line
-  if are_marks n parts.0 then terms_of counts (words parts.1) else None
+  if are_marks n parts.0 then terms_of counts pairs (words parts.1) else None
 
 -- the line of cut k: its prefix, and the number of one of the certificates
 abbrev pub cut_line : List ℕ → ℕ → ℕ → List ℕ → Option (List ℕ × ℕ)

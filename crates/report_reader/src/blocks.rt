@@ -1,8 +1,8 @@
 //! The blocks of a typology's report, each from its first line on. What they give stands beside the bytes behind them.
 
-ghost use Rattle.std.specs.Prelude.{◌≡◌, ◌≤◌, ◌+◌, IfOk, length, option_map};
+ghost use Rattle.std.specs.Prelude.{◌≡◌, ◌≤◌, ◌+◌, IfOk, IfSome, codes, length, option_map};
 ghost use Rattle.erc_vectors.specs.declared.condition.TheConstants.{LIMIT};
-ghost use Rattle.ot_base.specs.declared.limits.TheConstants.{INPUT_LIMIT, CANDIDATE_LIMIT};
+ghost use Rattle.ot_base.specs.declared.limits.TheConstants.{INPUT_LIMIT, CANDIDATE_LIMIT, GIVEN_LIMIT};
 ghost use Rattle.refutation.specs.Terms.{terms_in};
 ghost use Rattle.refutation.specs.Typologies as typologies;
 ghost use Rattle.refutation.specs.Typologies.{found_of};
@@ -11,12 +11,12 @@ ghost use Rattle.report_reader.specs.Grammar as grammar;
 ghost use Rattle.report_reader.specs.Grammar.{Gives, line_at, test_at, tests_at, each_at};
 
 use crate::lines::{
-    Head, certificate_line, count_line, cut_line, input_line, is_class, is_constraint, is_end,
-    is_title, language_line, some_line,
+    Head, certificate_line, count_line, cut_line, few_line, input_line, is_class, is_constraint,
+    is_end, is_given, is_title, language_line, some_line,
 };
 use crate::misread::Misread;
 use erc_vectors::{LIMIT, List};
-use ot_base::{CANDIDATE_LIMIT, ClassId, INPUT_LIMIT};
+use ot_base::{CANDIDATE_LIMIT, ClassId, GIVEN_LIMIT, INPUT_LIMIT};
 use refutation::{Contradiction, Cut, Language, Term};
 use std::alloc::Global;
 
@@ -195,10 +195,56 @@ fn inputs_at(
     Ok((counts, rest))
 }
 
-/// What the title, the constraints and the inputs call for.
+fn given_at(n: usize, k: usize, bytes: &[u8]) -> Result<&[u8], Misread>
+    ensures { Gives (λ rest. (tt, rest.now)) result (test_at (shape.is_given n k) bytes.now) }
+{
+    let Some((line, rest)) = first_line(bytes) else {
+        return Err(misfit(bytes));
+    };
+    if !is_given(n, k, line) {
+        return Err(misfit(bytes));
+    }
+    Ok(rest)
+}
+
+/// The bytes behind the lines of so many given pairs.
+fn pairs_at(n: usize, count: usize, bytes: &[u8]) -> Result<&[u8], Misread>
+    requires { count ≤ GIVEN_LIMIT }
+    ensures { Gives (λ rest. (tt, rest.now)) result (tests_at (shape.is_given n) 1 count bytes.now) }
+{
+    let mut rest = bytes;
+    for k in 0..count {
+        rest = given_at(n, k + 1, rest)?;
+    }
+    Ok(rest)
+}
+
+/// The number of given pairs, where the first line has it, and the bytes behind that line.
+fn pair_count_at(bytes: &[u8]) -> Option<(usize, &[u8])>
+    ensures value { option_map (λ x. (x.0, x.1.now)) result ≡ grammar.valued (shape.few_line (codes "givens") GIVEN_LIMIT) (grammar.first_line bytes.now) }
+    ensures small { IfSome result (λ x. x.0 ≤ GIVEN_LIMIT) }
+{
+    let (line, rest) = first_line(bytes)?;
+    let count = few_line(b"givens", GIVEN_LIMIT, line)?;
+    Some((count, rest))
+}
+
+/// The number of given pairs, of which there are none where the first line is another one than that of their number.
+#[tactic(auto, unfolding(crate::specs::Grammar::givens_at))]
+fn givens_at(n: usize, bytes: &[u8]) -> Result<(usize, &[u8]), Misread>
+    ensures { Gives (λ x. (x.0, x.1.now)) result (grammar.givens_at n bytes.now) }
+{
+    let Some((count, rest)) = pair_count_at(bytes) else {
+        return Ok((0, bytes));
+    };
+    let rest = pairs_at(n, count, rest)?;
+    Ok((count, rest))
+}
+
+/// What the title, the constraints, the inputs and the given pairs call for.
 #[tactic(auto, unfolding(crate::specs::Grammar::head_at))]
 pub(crate) fn head_at(alloc: Global, bytes: &[u8]) -> Result<(Head, &[u8]), Misread>
-    ensures value { Gives (λ x. ((x.0.constraints, x.0.counts), x.1.now)) result (grammar.head_at bytes.now) }
+    ensures value { Gives (λ x. (((x.0.constraints, x.0.counts), x.0.pairs), x.1.now)) result (grammar.head_at bytes.now) }
     ensures small { IfOk result (λ x. x.0.constraints ≤ LIMIT) }
 {
     let rest = title_at(bytes)?;
@@ -206,10 +252,12 @@ pub(crate) fn head_at(alloc: Global, bytes: &[u8]) -> Result<(Head, &[u8]), Misr
     let rest = constraints_at(constraints, rest)?;
     let (inputs, rest) = some_at(b"inputs", INPUT_LIMIT, rest)?;
     let (counts, rest) = inputs_at(alloc, constraints, inputs, rest)?;
+    let (pairs, rest) = givens_at(constraints, rest)?;
     Ok((
         Head {
             constraints,
             counts,
+            pairs,
         },
         rest,
     ))
@@ -279,7 +327,7 @@ fn certificate_at<'a>(
     buffer: &mut Vec<Term>,
 ) -> Result<(Contradiction, &'a [u8]), Misread>
     ensures { Gives (λ x. (terms_in x.0.terms, x.1.now)) result
-        (line_at (shape.certificate_line head.now.constraints head.now.counts k) bytes.now) }
+        (line_at (shape.certificate_line head.now.constraints head.now.counts head.now.pairs k) bytes.now) }
 {
     let Some((line, rest)) = first_line(bytes) else {
         return Err(misfit(bytes));
@@ -298,7 +346,7 @@ fn certificates_of<'a>(
     bytes: &'a [u8],
 ) -> Result<(List<Contradiction>, &'a [u8]), Misread>
     ensures { Gives (λ x. (typologies.certificates_of x.0, x.1.now)) result
-        (each_at (λ k. line_at (shape.certificate_line head.now.constraints head.now.counts k)) 1 count bytes.now) }
+        (each_at (λ k. line_at (shape.certificate_line head.now.constraints head.now.counts head.now.pairs k)) 1 count bytes.now) }
 {
     let mut certificates = List::new(alloc);
     let mut buffer = Vec::new(alloc);
@@ -318,7 +366,7 @@ pub(crate) fn certificates_at<'a>(
     head: &Head,
     bytes: &'a [u8],
 ) -> Result<(List<Contradiction>, &'a [u8]), Misread>
-    ensures { Gives (λ x. (typologies.certificates_of x.0, x.1.now)) result (grammar.certificates_at head.now.constraints head.now.counts bytes.now) }
+    ensures { Gives (λ x. (typologies.certificates_of x.0, x.1.now)) result (grammar.certificates_at head.now.constraints head.now.counts head.now.pairs bytes.now) }
 {
     let (count, rest) = count_at(b"certificates", bytes)?;
     certificates_of(alloc, head, count, rest)

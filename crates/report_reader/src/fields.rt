@@ -215,17 +215,19 @@ fn is_letter(b: u8) -> bool
     b == b'W' || b == b'L' || b == b'e'
 }
 
-/// Reads terms, of inputs with these numbers of classes, into the buffer, and says whether the field spells some.
+/// Reads terms, of inputs with these numbers of classes and of so many given pairs, into the buffer, and says whether the field spells
+/// some.
 pub(crate) fn read_terms(
     counts: &[u16],
+    pairs: usize,
     field: &[u8],
     buffer: &mut Vec<Term>,
 ) -> Result<bool, NoMemory>
-    ensures { IfOk result (λ fits. (if fits then Some (terms_in buffer.new.items) else None) ≡ spelled.terms_of counts.now (words field.now)) }
+    ensures { IfOk result (λ fits. (if fits then Some (terms_in buffer.new.items) else None) ≡ spelled.terms_of counts.now pairs (words field.now)) }
 {
     buffer.clear();
     for word in Pieces::words(field) {
-        let Some(term) = term(counts, word) else {
+        let Some(term) = term(counts, pairs, word) else {
             return Ok(false);
         };
         buffer.push(term)?;
@@ -234,8 +236,26 @@ pub(crate) fn read_terms(
 }
 
 /// The term that a word spells.
-fn term(counts: &[u16], word: &[u8]) -> Option<Term>
-    ensures { option_map term_of result ≡ spelled.term_of counts.now word.now }
+fn term(counts: &[u16], pairs: usize, word: &[u8]) -> Option<Term>
+    ensures { option_map term_of result ≡ spelled.term_of counts.now pairs word.now }
+{
+    match word {
+        [b'g', number @ ..] => given_of(pairs, number),
+        _ => loser_of(counts, word),
+    }
+}
+
+/// The given pair that a word names.
+fn given_of(pairs: usize, word: &[u8]) -> Option<Term>
+    ensures { option_map term_of result ≡ spelled.given_of pairs word.now }
+{
+    let k = place(pairs, word)?;
+    Some(Term::Given(k as u32))
+}
+
+/// The class of an input against another one that a word spells.
+fn loser_of(counts: &[u16], word: &[u8]) -> Option<Term>
+    ensures { option_map term_of result ≡ spelled.loser_of counts.now word.now }
 {
     let (input, classes) = two(word, b':')?;
     let (winner, loser) = two(classes, b'>')?;

@@ -17,12 +17,13 @@ use ot_base::{CANDIDATE_LIMIT, ClassId};
 use refutation::{Contradiction, Cut, Language, Prefix, Term};
 use std::alloc::Global;
 
-/// What the lines before call for in those of languages, certificates and cuts: the number of constraints, and the number of
-/// classes of each input.
+/// What the lines before call for in those of languages, certificates and cuts: the number of constraints, the number of classes of
+/// each input, and the number of given pairs.
 #[derive(Debug, Drop)]
 pub(crate) struct Head {
     pub(crate) constraints: usize,
     pub(crate) counts: List<u16>,
+    pub(crate) pairs: usize,
 }
 
 /// The four fields of a line.
@@ -98,6 +99,15 @@ pub(crate) fn some_line(word: &[u8], limit: usize, line: &[u8]) -> Option<usize>
     }
 }
 
+/// The number behind this word, where it is at most the limit.
+pub(crate) fn few_line(word: &[u8], limit: usize, line: &[u8]) -> Option<usize>
+    ensures value { result ≡ shape.few_line word.now limit line.now }
+    ensures small { IfSome result (λ count. count ≤ limit) }
+{
+    let count = count_line(word, line)?;
+    if count <= limit { Some(count) } else { None }
+}
+
 /// Whether a line is that of constraint k.
 pub(crate) fn is_constraint(k: usize, line: &[u8]) -> bool
     ensures { result ≡ shape.is_constraint k line.now }
@@ -106,6 +116,29 @@ pub(crate) fn is_constraint(k: usize, line: &[u8]) -> bool
         Some((abbreviation, name)) => is_text(abbreviation) && is_text(name),
         None => false,
     }
+}
+
+/// Whether a line is that of given pair k, in a report of n constraints.
+pub(crate) fn is_given(n: usize, k: usize, line: &[u8]) -> bool
+    ensures { result ≡ shape.is_given n k line.now }
+{
+    match numbered(b"given", k, line) {
+        Some((above, below)) => are_two(n, above, below),
+        None => false,
+    }
+}
+
+/// Whether the fields name two different ones of n constraints.
+fn are_two(n: usize, above: &[u8], below: &[u8]) -> bool
+    ensures { result ≡ shape.are_two n above.now below.now }
+{
+    let Some(c) = place(n, above) else {
+        return false;
+    };
+    let Some(d) = place(n, below) else {
+        return false;
+    };
+    c != d
 }
 
 /// The number of classes of input i, where this is its line.
@@ -232,12 +265,14 @@ pub(crate) fn certificate_line(
     buffer: &mut Vec<Term>,
 ) -> Result<Option<Contradiction>, NoMemory>
     ensures { IfOk result (λ certificate. option_map (λ certificate. terms_in certificate.terms) certificate
-        ≡ shape.certificate_line head.now.constraints head.now.counts k line.now) }
+        ≡ shape.certificate_line head.now.constraints head.now.counts head.now.pairs k line.now) }
 {
     let Some((marks, terms)) = numbered(b"certificate", k, line) else {
         return Ok(None);
     };
-    if !are_marks(head.constraints, marks) || !read_terms(head.counts.as_slice(), terms, buffer)? {
+    if !are_marks(head.constraints, marks)
+        || !read_terms(head.counts.as_slice(), head.pairs, terms, buffer)?
+    {
         return Ok(None);
     }
     let terms = List::of(alloc, buffer.as_slice())?;

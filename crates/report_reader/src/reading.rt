@@ -24,7 +24,8 @@ pub enum TextError {
 
 /// The typology that the report of a command `typology` spells, whose lines are those of `typology_text`, judged from the
 /// first one on. Numbers have no leading zeros, and none is above 268,435,456. Constraints are 1 to 64, inputs 1 to 1,000, and
-/// classes of an input 1 to 200, each with a member at least. A count is the number of the lines of its kind after it, which
+/// classes of an input 1 to 200, each with a member at least. A block of at most 4,096 given pairs may stand behind the classes, each of two
+/// different constraints; a term `gK` names one of them. A count is the number of the lines of its kind after it, which
 /// are numbered from 1 on. Texts may be empty, and have no tab, CR or LF. A hierarchy has each constraint once, ascending in
 /// each of its strata, of which none is empty. A certificate has at least one term, and its terms may stand in any order, more
 /// than once; no cut need name it. Nothing stands behind the last line, `end`.

@@ -8,16 +8,16 @@ use Rattle.ot_base.specs.declared.tableau.InputRows.{InputRows}
 use Rattle.ot_base.specs.declared.tableau.Tableau.{Tableau}
 use Rattle.ot_base.specs.Tableaus.{problem_of}
 use Rattle.ot_theory.specs.declared.Mark.TheVariants.{W, L, E}
-use Rattle.ot_theory.specs.Languages.{Term, Loser, classes_at}
+use Rattle.ot_theory.specs.Languages.{Term, Loser, Given, classes_at}
 use Rattle.refutation.specs.declared.implication.Implication.{Implication}
 use Rattle.report_text.specs.Reports.{head, rank_report, contradiction_report, cut_line, typology_report}
 use Rattle.report_text.specs.Listings.{hasse_report, bases_report, torder_report}
 use Rattle.std.proofs.lemmas.List.Elements.{All-nil, All-cons}
 use Rattle.ot_base.specs.Acceptable.{IsAcceptable, AreRows, IsRow}
 use Rattle.ot_base.specs.declared.limits.TheConstants.{VIOLATION_LIMIT}
-use Rattle.ot_theory.specs.Problems.{Problem}
+use Rattle.ot_theory.specs.Problems.{Problem, with_given}
 use Rattle.ot_theory.specs.Refutations.{is_term}
-use Rattle.report_reader.specs.Grammar.{head_at, input_at, languages_at, certificates_at, cuts_at, report_at}
+use Rattle.report_reader.specs.Grammar.{head_at, givens_at, input_at, languages_at, certificates_at, cuts_at, report_at}
 use Rattle.report_text.specs.Printable.{is_plain, IsPlain, IsPlainInput, IsHierarchy, IsLanguage, IsCertificate, IsCut, IsPrintable}
 use Rattle.violation_profiles.specs.WellFormed.{IsPrefix}
 use Rattle.report_text.proofs.ReadBack.{report-read}
@@ -101,6 +101,16 @@ typology_of_shared = refl
 pub languages_alone : typology_report alone (problem_of alone) ((0 ∷ [], 1 ∷ 1 ∷ 1 ∷ []) ∷ []) [] [] ≡ codes "otsoft report 1\ttypology\nconstraints\t3\nconstraint\t1\tNC\tNoCoda\nconstraint\t2\tMx\tMax\nconstraint\t3\tDp\tDep\ninputs\t1\ninput\t1\tx\t1\nclass\t1.1\t0 0 0\tx\nlanguages\t1\nlanguage\t1\t1\t1 2 3\ncertificates\t0\ncuts\t0\nend\n"
 unfolding typology_report head digits
 languages_alone = refl
+
+-- two given pairs that form a cycle
+pub cycle_of_alone : typology_report alone (with_given (problem_of alone) (record { above = 0; below = 1 } ∷ record { above = 1; below = 0 } ∷ [])) [] ((Given 0 ∷ Given 1 ∷ []) ∷ []) (([], 0) ∷ []) ≡ codes "otsoft report 1\ttypology\nconstraints\t3\nconstraint\t1\tNC\tNoCoda\nconstraint\t2\tMx\tMax\nconstraint\t3\tDp\tDep\ninputs\t1\ninput\t1\tx\t1\nclass\t1.1\t0 0 0\tx\ngivens\t2\ngiven\t1\t1\t2\ngiven\t2\t2\t1\nlanguages\t0\ncertificates\t1\ncertificate\t1\tLLe\tg1 g2\ncuts\t1\ncut\t1\t-\t1\nend\n"
+unfolding typology_report head digits
+cycle_of_alone = refl
+
+-- pairs were given, and there are none
+pub no_pairs_of_alone : typology_report alone (with_given (problem_of alone) []) ((0 ∷ [], 1 ∷ 1 ∷ 1 ∷ []) ∷ []) [] [] ≡ codes "otsoft report 1\ttypology\nconstraints\t3\nconstraint\t1\tNC\tNoCoda\nconstraint\t2\tMx\tMax\nconstraint\t3\tDp\tDep\ninputs\t1\ninput\t1\tx\t1\nclass\t1.1\t0 0 0\tx\ngivens\t0\nlanguages\t1\nlanguage\t1\t1\t1 2 3\ncertificates\t0\ncuts\t0\nend\n"
+unfolding typology_report head digits
+no_pairs_of_alone = refl
 
 -- the dash of the empty prefix
 pub cut_of_the_empty_prefix : cut_line 2 ([], 4) ≡ codes "cut\t2\t-\t5\n"
@@ -260,9 +270,9 @@ printable = record {
 -- by the law
 pub read_by_law : length (typology_report bounded (problem_of bounded) languages certificates cuts) ≤ 268435456
     → report_at (typology_report bounded (problem_of bounded) languages certificates cuts) ≡ Ok (record { languages = languages; certificates = certificates; cuts = cuts })
-read_by_law short = report-read bounded languages certificates cuts acceptable plain printable short
+read_by_law short = report-read bounded None languages certificates cuts acceptable plain tt printable short
 
 -- by computing
 pub read_by_computing : report_at (typology_report bounded (problem_of bounded) languages certificates cuts) ≡ Ok (record { languages = languages; certificates = certificates; cuts = cuts })
-unfolding typology_report head report_at head_at input_at languages_at certificates_at cuts_at digits
+unfolding typology_report head report_at head_at givens_at input_at languages_at certificates_at cuts_at digits
 read_by_computing = refl

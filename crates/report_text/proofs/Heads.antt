@@ -1,29 +1,32 @@
--- The head of a report is read: the number of constraints, and the numbers of classes by input.
-use Rattle.std.proofs.Common.{◌≡◌, ℕ, ◌<◌, ◌≤◌, Bool, true, false, not, ◌&&◌, ◌==◌, List, [], ◌∷◌, ◌++◌, Some, Ok, All, length, map, filter, flat_map, zip, decimal, get_or, codes, arith, refl, ap, ◌∙◌}
+-- The head of a report is read: the number of constraints, the numbers of classes by input, and the number of given pairs.
+use Rattle.std.proofs.Common.{◌≡◌, ℕ, ◌+◌, ◌<◌, ◌≤◌, Bool, true, false, not, ◌&&◌, ◌==◌, List, [], ◌∷◌, ◌++◌, Option, Some, None, Ok, All, length, map, filter, flat_map, zip, decimal, get_or, codes, arith, refl, ap, ◌∙◌}
 use Rattle.std.specs.List.{list_all, join_with_byte, enumerate_from}
-use Rattle.std.proofs.lemmas.Bool.{and_parts, le-leb, eq-eqb}
+use Rattle.std.specs.Option.{option_map_or}
+use Rattle.std.specs.Prelude.{IfSome}
+use Rattle.std.proofs.lemmas.Bool.{and_parts, le-leb, eq-eqb, ne_eqb}
 use Rattle.std.proofs.lemmas.List.{append_assoc, length-map}
 use Rattle.std.proofs.lemmas.List.Elements.{All-nil, All-cons, All-head, All-tail, All-map, All-filter, All-weaker}
 use Rattle.std.proofs.lemmas.Slice.Zip.{length-zip}
 use Rattle.erc_vectors.specs.declared.condition.TheConstants.{LIMIT}
 use Rattle.ot_base.specs.Acceptable.{IsAcceptable, AreRows}
-use Rattle.ot_base.specs.Tableaus.{problem_of, input_of_rows}
-use Rattle.ot_base.specs.declared.limits.TheConstants.{INPUT_LIMIT, CANDIDATE_LIMIT, VIOLATION_LIMIT}
+use Rattle.ot_base.specs.Tableaus.{input_of_rows}
+use Rattle.ot_base.specs.declared.limits.TheConstants.{INPUT_LIMIT, CANDIDATE_LIMIT, GIVEN_LIMIT, VIOLATION_LIMIT}
 use Rattle.ot_base.specs.declared.tableau.CandidateRow.{CandidateRow}
 use Rattle.ot_base.specs.declared.tableau.InputRows.{InputRows}
 use Rattle.ot_base.specs.declared.tableau.Tableau.{Tableau}
-use Rattle.ot_theory.specs.Problems.{Input, same_profile, classes_of}
+use Rattle.ot_theory.specs.Problems.{Input, IsPair, Pair, same_profile, classes_of, givens}
 use Rattle.ot_theory.proofs.Certificates.{all-weaker}
 use Rattle.ot_theory.proofs.Candidates.{length-classes_of, some-classes_of, same-refl}
 use Rattle.report_reader.specs.Fields.{pieces, is_text, is_digit, is_number}
-use Rattle.report_reader.specs.Grammar.{line_at, test_at, tests_at, each_at, input_at, head_at}
+use Rattle.report_reader.specs.Grammar.{first_line, valued, line_at, test_at, tests_at, each_at, input_at, givens_at, head_at}
 use Rattle.report_text.specs.Printable.{is_plain, IsPlain, IsPlainInput}
-use Rattle.report_text.specs.Reports.{head, title, members, class_line, input_lines}
-use Rattle.report_reader.specs.Shapes.{is_title, some_line, is_constraint, input_line, is_class, is_class_name, is_profile}
+use Rattle.report_text.specs.Posed.{ArePairs, posed}
+use Rattle.report_text.specs.Reports.{head, title, members, class_line, input_lines, given_line, given_lines, pair_lines}
+use Rattle.report_reader.specs.Shapes.{is_title, some_line, few_line, is_constraint, is_given, input_line, is_class, is_class_name, is_profile}
 use Rattle.report_text.specs.Spelling.{line, spaced}
-use Rattle.report_text.proofs.Numerals.{NUMBER_LIMIT, is_number-decimal, number-decimal, spells-decimal}
+use Rattle.report_text.proofs.Numerals.{NUMBER_LIMIT, is_number-decimal, number-decimal, place-decimal, spells-decimal}
 use Rattle.report_text.proofs.Parted.{lacks, lacks-append, pieces-alone, pieces-first, pieces-joined}
-use Rattle.report_text.proofs.Lines.{lacks-decimal, line_at-value, test_at-passes, count_line-joined, numbered-joined}
+use Rattle.report_text.proofs.Lines.{lacks-decimal, line_at-value, valued-line, test_at-passes, count_line-joined, numbered-joined}
 use Rattle.report_text.proofs.NumberedLines.{IsEachRead, each_at-all, IsEachPassed, tests_at-all}
 use Rattle.report_text.proofs.Spelled.{IsSmall, spaced-lacks, words-spaced}
 use Rattle.report_text.proofs.Strata.{filter-some}
@@ -185,54 +188,102 @@ some_line-joined : (word : List ℕ) (limit n : ℕ) → lacks 9 word ≡ true �
 some_line-joined word limit n plain some few small =
     rw (count_line-joined word n plain (omega (arith, few, small)), le-leb 1 n some, le-leb n limit few) refl
 
-head-chain : (n m : ℕ) (counts : List ℕ) (b0 b1 b2 b3 b4 b5 : List ℕ) → test_at is_title b0 ≡ Ok (tt, b1) → line_at (some_line (codes "constraints") LIMIT) b1 ≡ Ok (n, b2)
-    → tests_at is_constraint 1 n b2 ≡ Ok (tt, b3) → line_at (some_line (codes "inputs") INPUT_LIMIT) b3 ≡ Ok (m, b4) → each_at (input_at n) 1 m b4 ≡ Ok (counts, b5)
-    → head_at b0 ≡ Ok ((n, counts), b5)
-unfolding head_at
-head-chain n m counts b0 b1 b2 b3 b4 b5 h1 h2 h3 h4 h5 = rw (h1, h2, h3, h4, h5) refl
+-- ---- the given pairs
+few_line-joined : (word : List ℕ) (limit n : ℕ) → lacks 9 word ≡ true → n ≤ limit → limit ≤ NUMBER_LIMIT → few_line word limit (join_with_byte 9 (word ∷ decimal n ∷ [])) ≡ Some n
+few_line-joined word limit n plain few small = rw (count_line-joined word n plain (omega (arith, few, small)), le-leb n limit few) refl
 
-regrouped : (t c1 c2 i f rest : List ℕ) → (((t ++ (c1 ++ c2)) ++ i) ++ f) ++ rest ≡ t ++ (c1 ++ (c2 ++ (i ++ (f ++ rest))))
-regrouped t c1 c2 i f rest = simp append_assoc
+pair_passed : (n : ℕ) → n ≤ NUMBER_LIMIT → IsEachPassed (is_given n) (λ p. given_line p.0 p.1) (IsPair n) NUMBER_LIMIT
+pair_passed n small j pair rest few h =
+    let above : List ℕ = decimal (pair.above + 1) in
+    let below : List ℕ = decimal (pair.below + 1) in
+    let small_above : pair.above + 1 ≤ NUMBER_LIMIT = omega (arith, h.above, small) in
+    let small_below : pair.below + 1 ≤ NUMBER_LIMIT = omega (arith, h.below, small) in
+    let value = numbered-joined (codes "given") j above below refl (lacks-decimal 9 (pair.above + 1) refl small_above) (lacks-decimal 9 (pair.below + 1) refl small_below) few in
+    test_at-passes (is_given n j) (codes "given" ∷ decimal j ∷ above ∷ below ∷ []) rest
+    (rw (lacks-decimal 10 j refl few, lacks-decimal 10 (pair.above + 1) refl small_above, lacks-decimal 10 (pair.below + 1) refl small_below) refl)
+    (rw (value, place-decimal n pair.above h.above small, place-decimal n pair.below h.below small, ne_eqb pair.above pair.below h.differ) refl)
+
+-- no line of their number
+abbrev pub SkipsGivens : List ℕ → Type 0
+SkipsGivens bytes = valued (few_line (codes "givens") GIVEN_LIMIT) (first_line bytes) ≡ None
+
+pub skips-languages : (count : ℕ) (behind rest : List ℕ) → count ≤ NUMBER_LIMIT → SkipsGivens ((line (codes "languages" ∷ decimal count ∷ []) ++ behind) ++ rest)
+skips-languages count behind rest few =
+    let texts = codes "languages" ∷ decimal count ∷ [] in
+    let parts = pieces-joined 9 (codes "languages") (decimal count ∷ []) (rw (lacks-decimal 9 count refl few) refl) in
+    let other : few_line (codes "givens") GIVEN_LIMIT (join_with_byte 9 texts) ≡ None = rw parts refl in
+    ap (λ (bytes : List ℕ). valued (few_line (codes "givens") GIVEN_LIMIT) (first_line bytes)) (append_assoc (line texts) behind rest)
+    ∙ valued-line (few_line (codes "givens") GIVEN_LIMIT) texts (behind ++ rest) None (rw (lacks-decimal 10 count refl few) refl) other
+
+givens-chain : (n count : ℕ) (b0 b1 b2 : List ℕ) → valued (few_line (codes "givens") GIVEN_LIMIT) (first_line b0) ≡ Some (count, b1) → tests_at (is_given n) 1 count b1 ≡ Ok (tt, b2) → givens_at n b0 ≡ Ok (count, b2)
+unfolding givens_at
+givens-chain n count b0 b1 b2 first lines = rw (first, lines) refl
+
+givens-read : (n : ℕ) (given : Option (List Pair)) (rest : List ℕ) → n ≤ NUMBER_LIMIT → IfSome given (λ pairs. (length pairs ≤ GIVEN_LIMIT) × All (IsPair n) pairs) → SkipsGivens rest
+    → givens_at n (option_map_or pair_lines given [] ++ rest) ≡ Ok (length (option_map_or (λ pairs. pairs) given []), rest)
+unfolding givens_at
+givens-read n None rest small h skips = rw skips refl
+givens-read n (Some pairs) rest small h skips =
+    let count = length pairs in
+    let few : count ≤ NUMBER_LIMIT = omega (arith, h.0) in
+    let texts = codes "givens" ∷ decimal count ∷ [] in
+    let behind = flat_map (λ p. given_line p.0 p.1) (enumerate_from 1 pairs) in
+    let first = valued-line (few_line (codes "givens") GIVEN_LIMIT) texts (behind ++ rest) (Some count) (rw (lacks-decimal 10 count refl few) refl) (few_line-joined (codes "givens") GIVEN_LIMIT count refl h.0 (omega arith)) in
+    let lines = tests_at-all (is_given n) (λ p. given_line p.0 p.1) (IsPair n) NUMBER_LIMIT (pair_passed n small) pairs 1 rest h.1 (omega (arith, few)) in
+    ap (givens_at n) (append_assoc (line texts) behind rest) ∙ givens-chain n count (line texts ++ (behind ++ rest)) (behind ++ rest) rest first lines
+
+-- ---- the whole head
+head-chain : (n m : ℕ) (counts : List ℕ) (pairs : ℕ) (b0 b1 b2 b3 b4 b5 b6 : List ℕ) → test_at is_title b0 ≡ Ok (tt, b1) → line_at (some_line (codes "constraints") LIMIT) b1 ≡ Ok (n, b2)
+    → tests_at is_constraint 1 n b2 ≡ Ok (tt, b3) → line_at (some_line (codes "inputs") INPUT_LIMIT) b3 ≡ Ok (m, b4) → each_at (input_at n) 1 m b4 ≡ Ok (counts, b5) → givens_at n b5 ≡ Ok (pairs, b6)
+    → head_at b0 ≡ Ok (((n, counts), pairs), b6)
+unfolding head_at
+head-chain n m counts pairs b0 b1 b2 b3 b4 b5 b6 h1 h2 h3 h4 h5 h6 = rw (h1, h2, h3, h4, h5, h6) refl
+
+regrouped : (t c1 c2 i f g rest : List ℕ) → ((((t ++ (c1 ++ c2)) ++ i) ++ f) ++ g) ++ rest ≡ t ++ (c1 ++ (c2 ++ (i ++ (f ++ (g ++ rest)))))
+regrouped t c1 c2 i f g rest = simp append_assoc
 
 -- the numbers of classes by input
 abbrev pub counts_of : List Input → List ℕ
 counts_of inputs = map (λ input. length input.classes) inputs
 
-pub head-read : (tableau : Tableau) (rest : List ℕ) → IsAcceptable tableau → IsPlain tableau
-    → head_at (head (codes "typology") tableau (problem_of tableau) ++ rest) ≡ Ok ((length tableau.names, counts_of (map input_of_rows tableau.inputs)), rest)
+pub head-read : (tableau : Tableau) (given : Option (List Pair)) (rest : List ℕ) → IsAcceptable tableau → IsPlain tableau → ArePairs tableau given → SkipsGivens rest
+    → head_at (head (codes "typology") tableau (posed tableau given) ++ rest) ≡ Ok (((length tableau.names, counts_of (map input_of_rows tableau.inputs)), length (givens (posed tableau given))), rest)
 unfolding head
-head-read tableau rest h plain =
+head-read tableau given rest h plain pairs skips =
     let n = length tableau.names in
     let m = length tableau.inputs in
-    let pairs = zip tableau.abbrevs tableau.names in
+    let names = zip tableau.abbrevs tableau.names in
     let inputs = zip tableau.inputs (map input_of_rows tableau.inputs) in
     let t = title (codes "typology") in
     let c1 = line (codes "constraints" ∷ decimal n ∷ []) in
-    let c2 = flat_map (λ p. line (codes "constraint" ∷ decimal p.0 ∷ p.1.0 ∷ p.1.1 ∷ [])) (enumerate_from 1 pairs) in
+    let c2 = flat_map (λ p. line (codes "constraint" ∷ decimal p.0 ∷ p.1.0 ∷ p.1.1 ∷ [])) (enumerate_from 1 names) in
     let i = line (codes "inputs" ∷ decimal m ∷ []) in
     let f = flat_map (λ p. input_lines p.0 p.1.0 p.1.1) (enumerate_from 1 inputs) in
     let small_n : n ≤ NUMBER_LIMIT = omega (arith, h.few_names) in
     let small_m : m ≤ NUMBER_LIMIT = omega (arith, h.few_inputs) in
-    let b4 = f ++ rest in
+    let g = given_lines (posed tableau given) in
+    let b5 = g ++ rest in
+    let b4 = f ++ b5 in
     let b3 = i ++ b4 in
     let b2 = c2 ++ b3 in
     let b1 = c1 ++ b2 in
-    let pair_count : length pairs ≡ n = omega (arith, length-zip tableau.abbrevs tableau.names, h.abbreviated) in
+    let name_count : length names ≡ n = omega (arith, length-zip tableau.abbrevs tableau.names, h.abbreviated) in
     let input_count : length inputs ≡ m = omega (arith, length-zip tableau.inputs (map input_of_rows tableau.inputs), length-map tableau.inputs input_of_rows) in
-    let each_pair = all-zip IsPlainText IsPlainText tableau.abbrevs tableau.names plain.abbreviations plain.names in
+    let each_name = all-zip IsPlainText IsPlainText tableau.abbrevs tableau.names plain.abbreviations plain.names in
     let each_input = all-beside (IsReadInput n) input_of_rows tableau.inputs (λ k d below. rows-read n (get_or tableau.inputs k d) (h.rows k d below) (plain.inputs k d below)) in
     let s1 = test_at-passes is_title (codes "otsoft report 1" ∷ codes "typology" ∷ []) b1 refl refl in
     let s2 = line_at-value (some_line (codes "constraints") LIMIT) (codes "constraints" ∷ decimal n ∷ []) b2 n (rw (lacks-decimal 10 n refl small_n) refl)
     (some_line-joined (codes "constraints") LIMIT n refl h.some_name h.few_names (omega arith))
     in
     let s3 : tests_at is_constraint 1 n b2 ≡ Ok (tt, b3) =
-    rw pair_count at (tests_at-all is_constraint (λ p. line (codes "constraint" ∷ decimal p.0 ∷ p.1.0 ∷ p.1.1 ∷ [])) ArePlain NUMBER_LIMIT constraint_passed pairs 1 b3 each_pair (omega (arith, pair_count, small_n)))
+    rw name_count at (tests_at-all is_constraint (λ p. line (codes "constraint" ∷ decimal p.0 ∷ p.1.0 ∷ p.1.1 ∷ [])) ArePlain NUMBER_LIMIT constraint_passed names 1 b3 each_name (omega (arith, name_count, small_n)))
     in
     let s4 = line_at-value (some_line (codes "inputs") INPUT_LIMIT) (codes "inputs" ∷ decimal m ∷ []) b4 m (rw (lacks-decimal 10 m refl small_m) refl)
     (some_line-joined (codes "inputs") INPUT_LIMIT m refl h.some_input h.few_inputs (omega arith))
     in
-    let s5 : each_at (input_at n) 1 m b4 ≡ Ok (counts_of (map input_of_rows tableau.inputs), rest) =
+    let s5 : each_at (input_at n) 1 m b4 ≡ Ok (counts_of (map input_of_rows tableau.inputs), b5) =
     rw (input_count, map-beside (λ (input : Input). length input.classes) input_of_rows tableau.inputs) at
-    (each_at-all (input_at n) (λ p. input_lines p.0 p.1.0 p.1.1) (λ input. length input.1.classes) (IsReadInput n) NUMBER_LIMIT (input_read n h.some_name) inputs 1 rest each_input (omega (arith, input_count, small_m)))
+    (each_at-all (input_at n) (λ p. input_lines p.0 p.1.0 p.1.1) (λ input. length input.1.classes) (IsReadInput n) NUMBER_LIMIT (input_read n h.some_name) inputs 1 b5 each_input (omega (arith, input_count, small_m)))
     in
-    ap head_at (regrouped t c1 c2 i f rest) ∙ head-chain n m (counts_of (map input_of_rows tableau.inputs)) (t ++ b1) b1 b2 b3 b4 rest s1 s2 s3 s4 s5
+    let s6 = givens-read n given rest small_n pairs skips in
+    ap head_at (regrouped t c1 c2 i f g rest) ∙ head-chain n m (counts_of (map input_of_rows tableau.inputs)) (length (givens (posed tableau given))) (t ++ b1) b1 b2 b3 b4 b5 rest s1 s2 s3 s4 s5 s6

@@ -1,6 +1,7 @@
 -- A line of fields is read as its fields.
 use Rattle.std.proofs.Common.{◌≡◌, ℕ, ◌<◌, ◌≤◌, ◌^◌, Bool, true, false, not, ◌==◌, List, [], ◌∷◌, ◌++◌, Option, Some, None, Ok, length, decimal, if◌then◌else◌, bytes_eq, arith, refl, inl, inr}
 use Rattle.std.specs.List.{list_all, join_with_byte}
+use Rattle.std.specs.Option.{option_map}
 use Rattle.std.proofs.lemmas.Bool.{and_parts}
 use Rattle.std.proofs.lemmas.Bool.Decides.{eqb_tells}
 use Rattle.std.proofs.lemmas.Fmt.{decimal_nonempty}
@@ -8,7 +9,7 @@ use Rattle.std.proofs.lemmas.List.{append_assoc}
 use Rattle.std.proofs.lemmas.Slice.Eq.{bytes_eq-Decides}
 use Rattle.ot_theory.proofs.Certificates.{all-weaker}
 use Rattle.report_reader.specs.Fields.{is_digit}
-use Rattle.report_reader.specs.Grammar.{line_at, test_at}
+use Rattle.report_reader.specs.Grammar.{first_line, line_at, test_at, valued}
 use Rattle.report_reader.specs.Shapes.{count_line, numbered}
 use Rattle.report_text.specs.Spelling.{line}
 use Rattle.report_text.proofs.Numerals.{NUMBER_LIMIT, digits-decimal, number-decimal, spells-decimal}
@@ -41,6 +42,14 @@ bytes_eq-same text = (bytes_eq-Decides text text).1 refl
 pub line_at-value : {A : Type 0} (value : List ℕ → Option A) (texts : List (List ℕ)) (rest : List ℕ) (a : A) → list_all (lacks 10) texts ≡ true
     → value (join_with_byte 9 texts) ≡ Some a → line_at value (line texts ++ rest) ≡ Ok (a, rest)
 line_at-value value texts rest a each has =
+    let text = join_with_byte 9 texts in
+    let first = first_line-text text rest (lacks-joined 10 9 texts refl each) in
+    rw (append_assoc text (10 ∷ []) rest, first, has) refl
+
+-- the first line, where it has a value and where it has none
+pub valued-line : {A : Type 0} (value : List ℕ → Option A) (texts : List (List ℕ)) (rest : List ℕ) (a : Option A) → list_all (lacks 10) texts ≡ true
+    → value (join_with_byte 9 texts) ≡ a → valued value (first_line (line texts ++ rest)) ≡ option_map (λ x. (x, rest)) a
+valued-line value texts rest a each has =
     let text = join_with_byte 9 texts in
     let first = first_line-text text rest (lacks-joined 10 9 texts refl each) in
     rw (append_assoc text (10 ∷ []) rest, first, has) refl

@@ -1,15 +1,17 @@
 -- Class numbers, marks and terms are read from what they are spelled as.
-use Rattle.std.proofs.Common.{◌≡◌, ℕ, suc, ◌+◌, ◌<◌, ◌≤◌, true, false, ◌==◌, List, [], ◌∷◌, ◌++◌, Some, All, length, map, decimal, get_or, bytes_eq, codes, arith, refl, ap, ◌∙◌}
+use Rattle.std.proofs.Common.{◌≡◌, ℕ, suc, ◌+◌, ◌^◌, ◌<◌, ◌≤◌, true, false, ◌==◌, List, [], ◌∷◌, ◌++◌, Some, All, length, map, decimal, get_or, bytes_eq, codes, arith, refl, ap, ◌∙◌, inl, inr}
 use Rattle.std.specs.List.{list_all}
-use Rattle.std.proofs.lemmas.Bool.{eq-eqb}
+use Rattle.std.proofs.lemmas.Bool.{and_parts, eq-eqb}
+use Rattle.std.proofs.lemmas.Bool.Decides.{eqb_tells}
+use Rattle.std.proofs.lemmas.Fmt.{decimal_nonempty}
 use Rattle.std.proofs.lemmas.List.{append_assoc, length-map}
 use Rattle.std.proofs.lemmas.List.Elements.{All-head, All-tail, All-cons}
 use Rattle.ot_theory.specs.declared.Mark.{Mark}
 use Rattle.ot_theory.specs.declared.Mark.TheVariants.{W, L, E}
 use Rattle.ot_theory.specs.Languages.{Term, Loser, Given}
-use Rattle.report_reader.specs.Fields.{words, pieces, classes, prefix_of, choice_of, is_letter, are_marks, is_digit, term_of, terms_of}
+use Rattle.report_reader.specs.Fields.{words, pieces, classes, prefix_of, choice_of, is_letter, are_marks, is_digit, loser_of, term_of, terms_of}
 use Rattle.report_text.specs.Spelling.{spaced, prefix, letter, marks, term, terms}
-use Rattle.report_text.proofs.Numerals.{NUMBER_LIMIT, place-decimal}
+use Rattle.report_text.proofs.Numerals.{NUMBER_LIMIT, digits-decimal, place-decimal}
 use Rattle.report_text.proofs.Parted.{lacks, lacks-append, lacks-joined, pieces-alone, pieces-first, pieces-joined}
 use Rattle.report_text.proofs.Lines.{lacks-other, lacks-decimal, decimal-differs}
 use Rattle.report_text.proofs.Spaced.{join-cons}
@@ -103,9 +105,10 @@ pub record IsLoserOf (counts : List ℕ) (i a b : ℕ) : Type 0 where
   pub loser : b < get_or counts i 0
   pub differ : (a == b) ≡ false
 
-abbrev pub IsTermOf : List ℕ → Term → Type 0
-IsTermOf counts (Loser i a b) = IsLoserOf counts i a b
-IsTermOf counts (Given k) = ⊥
+-- the same, or one of so many given pairs
+abbrev pub IsTermOf : List ℕ → ℕ → Term → Type 0
+IsTermOf counts pairs (Loser i a b) = IsLoserOf counts i a b
+IsTermOf counts pairs (Given k) = k < pairs
 
 loser-parts : (i a b : ℕ) → term (Loser i a b) ≡ decimal (i + 1) ++ 58 ∷ (decimal (a + 1) ++ 62 ∷ decimal (b + 1))
 loser-parts i a b = simp append_assoc
@@ -118,7 +121,7 @@ loser-lacks c digit colon sign counts i a b bounds h =
     let right = lacks-append c (decimal (a + 1)) (62 ∷ decimal (b + 1)) winner (rw (sign, loser) refl) in
     rw (loser-parts i a b) (lacks-append c (decimal (i + 1)) (58 ∷ (decimal (a + 1) ++ 62 ∷ decimal (b + 1))) input (rw colon right))
 
-loser-read : (counts : List ℕ) (i a b : ℕ) → AreCounts counts → IsLoserOf counts i a b → term_of counts (term (Loser i a b)) ≡ Some (Loser i a b)
+loser-read : (counts : List ℕ) (i a b : ℕ) → AreCounts counts → IsLoserOf counts i a b → loser_of counts (term (Loser i a b)) ≡ Some (Loser i a b)
 loser-read counts i a b bounds h =
     let few = bounds.small i in
     let small_input : i + 1 ≤ NUMBER_LIMIT = omega (arith, h.input, bounds.few) in
@@ -143,29 +146,44 @@ loser-read counts i a b bounds h =
       h.differ,
     ) refl
 
-pub term-lacks : (c : ℕ) → is_digit c ≡ false → (58 == c) ≡ false → (62 == c) ≡ false → (counts : List ℕ) (t : Term) → AreCounts counts → IsTermOf counts t → lacks c (term t) ≡ true
-term-lacks c digit colon sign counts (Loser i a b) bounds h = loser-lacks c digit colon sign counts i a b bounds h
-term-lacks c digit colon sign counts (Given k) bounds h = absurd h
+-- what begins with a digit is no given pair
+digit-first : (counts : List ℕ) (pairs : ℕ) (ds rest : List ℕ) → list_all is_digit ds ≡ true → 0 < length ds → term_of counts pairs (ds ++ rest) ≡ loser_of counts (ds ++ rest)
+digit-first counts pairs [] rest each some = absurd (omega (arith, some))
+digit-first counts pairs (d ∷ ds) rest each some =
+    let passes = (and_parts (is_digit d) (list_all is_digit ds) each).0 in
+    elim (eqb_tells d 103) [ inl same ↦ absurd (let both : is_digit d ≡ false = rw same.1 refl in cc) | inr differ ↦ rw differ.0 refl ]
 
-pub term_of-term : (counts : List ℕ) (t : Term) → AreCounts counts → IsTermOf counts t → term_of counts (term t) ≡ Some t
-term_of-term counts (Loser i a b) bounds h = loser-read counts i a b bounds h
-term_of-term counts (Given k) bounds h = absurd h
+loser-first : (counts : List ℕ) (pairs i a b : ℕ) → i + 1 ≤ NUMBER_LIMIT → term_of counts pairs (term (Loser i a b)) ≡ loser_of counts (term (Loser i a b))
+loser-first counts pairs i a b small =
+    let fits : i + 1 < 2 ^ 64 = omega arith in
+    rw (loser-parts i a b) (digit-first counts pairs (decimal (i + 1)) (58 ∷ (decimal (a + 1) ++ 62 ∷ decimal (b + 1))) (digits-decimal (i + 1) fits).digits (decimal_nonempty (i + 1) fits))
 
-terms-spelled : (counts : List ℕ) (list : List Term) → AreCounts counts → All (IsTermOf counts) list → terms_of counts (map term list) ≡ Some list
-terms-spelled counts [] bounds each = refl
-terms-spelled counts (t ∷ list) bounds each =
-    rw (term_of-term counts t bounds (All-head (IsTermOf counts) t list each), terms-spelled counts list bounds (All-tail (IsTermOf counts) t list each)) refl
+pub term-lacks : (c : ℕ) → is_digit c ≡ false → (58 == c) ≡ false → (62 == c) ≡ false → (103 == c) ≡ false → (counts : List ℕ) (pairs : ℕ) (t : Term) → AreCounts counts → pairs ≤ NUMBER_LIMIT → IsTermOf counts pairs t → lacks c (term t) ≡ true
+term-lacks c digit colon sign letter counts pairs (Loser i a b) bounds few h = loser-lacks c digit colon sign counts i a b bounds h
+term-lacks c digit colon sign letter counts pairs (Given k) bounds few h = rw (letter, lacks-decimal c (k + 1) digit (omega (arith, h, few))) refl
 
-each-lacks : (c : ℕ) → is_digit c ≡ false → (58 == c) ≡ false → (62 == c) ≡ false → (counts : List ℕ) (list : List Term) → AreCounts counts → All (IsTermOf counts) list → list_all (lacks c) (map term list) ≡ true
-each-lacks c digit colon sign counts [] bounds each = refl
-each-lacks c digit colon sign counts (t ∷ list) bounds each =
-    rw (term-lacks c digit colon sign counts t bounds (All-head (IsTermOf counts) t list each), each-lacks c digit colon sign counts list bounds (All-tail (IsTermOf counts) t list each)) refl
+pub term_of-term : (counts : List ℕ) (pairs : ℕ) (t : Term) → AreCounts counts → pairs ≤ NUMBER_LIMIT → IsTermOf counts pairs t → term_of counts pairs (term t) ≡ Some t
+term_of-term counts pairs (Loser i a b) bounds few h = loser-first counts pairs i a b (omega (arith, h.input, bounds.few)) ∙ loser-read counts i a b bounds h
+term_of-term counts pairs (Given k) bounds few h = rw (place-decimal pairs k h few) refl
 
-pub terms-lack : (c : ℕ) → is_digit c ≡ false → (58 == c) ≡ false → (62 == c) ≡ false → (32 == c) ≡ false → (counts : List ℕ) (list : List Term) → AreCounts counts → All (IsTermOf counts) list → lacks c (terms list) ≡ true
-terms-lack c digit colon sign space counts list bounds each = lacks-joined c 32 (map term list) space (each-lacks c digit colon sign counts list bounds each)
+terms-spelled : (counts : List ℕ) (pairs : ℕ) (list : List Term) → AreCounts counts → pairs ≤ NUMBER_LIMIT → All (IsTermOf counts pairs) list → terms_of counts pairs (map term list) ≡ Some list
+terms-spelled counts pairs [] bounds few each = refl
+terms-spelled counts pairs (t ∷ list) bounds few each =
+    rw (term_of-term counts pairs t bounds few (All-head (IsTermOf counts pairs) t list each), terms-spelled counts pairs list bounds few (All-tail (IsTermOf counts pairs) t list each)) refl
 
-pub terms_of-terms : (counts : List ℕ) (list : List Term) → 1 ≤ length list → AreCounts counts → All (IsTermOf counts) list → terms_of counts (words (terms list)) ≡ Some list
-terms_of-terms counts [] some bounds each = absurd (omega (arith, some))
-terms_of-terms counts (t ∷ list) some bounds each =
-    let split = pieces-joined 32 (term t) (map term list) (each-lacks 32 refl refl refl counts (t ∷ list) bounds each) in
-    rw split (terms-spelled counts (t ∷ list) bounds each)
+each-lacks : (c : ℕ) → is_digit c ≡ false → (58 == c) ≡ false → (62 == c) ≡ false → (103 == c) ≡ false → (counts : List ℕ) (pairs : ℕ) (list : List Term) → AreCounts counts → pairs ≤ NUMBER_LIMIT → All (IsTermOf counts pairs) list → list_all (lacks c) (map term list) ≡ true
+each-lacks c digit colon sign letter counts pairs [] bounds few each = refl
+each-lacks c digit colon sign letter counts pairs (t ∷ list) bounds few each =
+    rw (
+      term-lacks c digit colon sign letter counts pairs t bounds few (All-head (IsTermOf counts pairs) t list each),
+      each-lacks c digit colon sign letter counts pairs list bounds few (All-tail (IsTermOf counts pairs) t list each),
+    ) refl
+
+pub terms-lack : (c : ℕ) → is_digit c ≡ false → (58 == c) ≡ false → (62 == c) ≡ false → (103 == c) ≡ false → (32 == c) ≡ false → (counts : List ℕ) (pairs : ℕ) (list : List Term) → AreCounts counts → pairs ≤ NUMBER_LIMIT → All (IsTermOf counts pairs) list → lacks c (terms list) ≡ true
+terms-lack c digit colon sign letter space counts pairs list bounds few each = lacks-joined c 32 (map term list) space (each-lacks c digit colon sign letter counts pairs list bounds few each)
+
+pub terms_of-terms : (counts : List ℕ) (pairs : ℕ) (list : List Term) → 1 ≤ length list → AreCounts counts → pairs ≤ NUMBER_LIMIT → All (IsTermOf counts pairs) list → terms_of counts pairs (words (terms list)) ≡ Some list
+terms_of-terms counts pairs [] some bounds few each = absurd (omega (arith, some))
+terms_of-terms counts pairs (t ∷ list) some bounds few each =
+    let split = pieces-joined 32 (term t) (map term list) (each-lacks 32 refl refl refl refl counts pairs (t ∷ list) bounds few each) in
+    rw split (terms-spelled counts pairs (t ∷ list) bounds few each)

@@ -1,5 +1,5 @@
 -- The lines of languages, certificates and cuts are read.
-use Rattle.std.proofs.Common.{◌≡◌, ℕ, zero, suc, ◌+◌, ◌≤◌, true, not, ◌&&◌, ◌==◌, List, [], ◌∷◌, ◌++◌, Ok, All, length, map, flat_map, decimal, get_or, nat_lt, codes, length-append, arith, refl, sym, ap, ◌∙◌}
+use Rattle.std.proofs.Common.{◌≡◌, ℕ, zero, suc, ◌+◌, ◌≤◌, true, not, ◌&&◌, ◌==◌, List, [], ◌∷◌, ◌++◌, Ok, All, length, map, flat_map, decimal, get_or, nat_lt, codes, length-append, arith, refl, sym, ◌∙◌}
 use Rattle.std.specs.Prelude.{slice_get}
 use Rattle.std.specs.List.{enumerate_from}
 use Rattle.std.specs.Option.{option_map_or}
@@ -10,7 +10,7 @@ use Rattle.std.proofs.lemmas.List.FromFn.{length-map-range_with_len}
 use Rattle.ot_theory.specs.declared.Mark.{Mark}
 use Rattle.ot_theory.specs.Conditions.{fusion, fused, mark_at}
 use Rattle.ot_theory.specs.Languages.{Term, Loser, Given, classes_at, condition_of}
-use Rattle.ot_theory.specs.Problems.{Problem, Input, Pair, givens}
+use Rattle.ot_theory.specs.Problems.{Problem, Input, givens}
 use Rattle.ot_theory.specs.Refutations.{is_term}
 use Rattle.violation_profiles.specs.WellFormed.{IsWellFormed, IsWellFormedInput, IsPrefix}
 use Rattle.report_reader.specs.Grammar.{◌>>=◌, Reading, line_at, each_at, languages_at, certificates_at, cuts_at}
@@ -66,9 +66,9 @@ are-class-numbers problem numbers h = record {
   within = λ i below. omega (arith, count-at problem.inputs i, h.within i below);
 }
 
-is-term-of : (problem : Problem) → givens problem ≡ [] → (t : Term) → is_term problem t ≡ true → IsTermOf (counts_of problem.inputs) t
-is-term-of problem none (Given k) h = absurd (omega (arith, ltb-true k (length (givens problem)) h, ap (λ (pairs : List Pair). length pairs) none))
-is-term-of problem none (Loser i a b) h =
+is-term-of : (problem : Problem) (t : Term) → is_term problem t ≡ true → IsTermOf (counts_of problem.inputs) (length (givens problem)) t
+is-term-of problem (Given k) h = ltb-true k (length (givens problem)) h
+is-term-of problem (Loser i a b) h =
     let input = nat_lt i (length problem.inputs) in
     let winner = nat_lt a (length (classes_at problem i)) in
     let loser = nat_lt b (length (classes_at problem i)) in
@@ -112,25 +112,27 @@ languages-read problem languages rest w some each few =
 fusion-wide : (n : ℕ) (set : List (List Mark)) → length (fusion n set) ≡ n
 fusion-wide n set = length-map-range_with_len (λ c. fused (map (λ marks. mark_at marks c) set)) 0 n
 
-certificate-read : (problem : Problem) → IsWellFormed problem → givens problem ≡ []
-    → IsEachRead (λ k. line_at (shapes.certificate_line problem.constraints (counts_of problem.inputs) k)) (λ p. reports.certificate_line problem p.0 p.1) (λ list. list) (IsCertificate problem) NUMBER_LIMIT
-certificate-read problem w none j list rest small h =
+certificate-read : (problem : Problem) → IsWellFormed problem
+    → IsEachRead (λ k. line_at (shapes.certificate_line problem.constraints (counts_of problem.inputs) (length (givens problem)) k)) (λ p. reports.certificate_line problem p.0 p.1) (λ list. list) (IsCertificate problem) NUMBER_LIMIT
+certificate-read problem w j list rest small h =
     let n = problem.constraints in
     let counts = counts_of problem.inputs in
     let bounds = are-counts problem w in
     let fusion_marks = fusion n (map (condition_of problem) list) in
-    let each = All-weaker (λ t. is_term problem t ≡ true) (IsTermOf counts) (is-term-of problem none) list h.each in
-    let value = numbered-joined (codes "certificate") j (marks fusion_marks) (terms list) refl (marks-lack 9 refl fusion_marks) (terms-lack 9 refl refl refl refl counts list bounds each) small in
-    line_at-value (shapes.certificate_line n counts j) (codes "certificate" ∷ decimal j ∷ marks fusion_marks ∷ terms list ∷ []) rest list
-    (rw (lacks-decimal 10 j refl small, marks-lack 10 refl fusion_marks, terms-lack 10 refl refl refl refl counts list bounds each) refl)
-    (rw (value, are_marks-marks n fusion_marks (fusion-wide n (map (condition_of problem) list))) (terms_of-terms counts list h.some_term bounds each))
+    let each = All-weaker (λ t. is_term problem t ≡ true) (IsTermOf counts (length (givens problem))) (is-term-of problem) list h.each in
+    let pairs : ℕ = length (givens problem) in
+    let few_pairs : pairs ≤ NUMBER_LIMIT = omega (arith, w.few_pairs) in
+    let value = numbered-joined (codes "certificate") j (marks fusion_marks) (terms list) refl (marks-lack 9 refl fusion_marks) (terms-lack 9 refl refl refl refl refl counts pairs list bounds few_pairs each) small in
+    line_at-value (shapes.certificate_line n counts pairs j) (codes "certificate" ∷ decimal j ∷ marks fusion_marks ∷ terms list ∷ []) rest list
+    (rw (lacks-decimal 10 j refl small, marks-lack 10 refl fusion_marks, terms-lack 10 refl refl refl refl refl counts pairs list bounds few_pairs each) refl)
+    (rw (value, are_marks-marks n fusion_marks (fusion-wide n (map (condition_of problem) list))) (terms_of-terms counts pairs list h.some_term bounds few_pairs each))
 
-pub certificates-read : (problem : Problem) (certificates : List (List Term)) (rest : List ℕ) → IsWellFormed problem → givens problem ≡ [] → All (IsCertificate problem) certificates → length certificates ≤ NUMBER_LIMIT
-    → certificates_at problem.constraints (counts_of problem.inputs) (reports.certificate_lines problem certificates ++ rest) ≡ Ok (certificates, rest)
+pub certificates-read : (problem : Problem) (certificates : List (List Term)) (rest : List ℕ) → IsWellFormed problem → All (IsCertificate problem) certificates → length certificates ≤ NUMBER_LIMIT
+    → certificates_at problem.constraints (counts_of problem.inputs) (length (givens problem)) (reports.certificate_lines problem certificates ++ rest) ≡ Ok (certificates, rest)
 unfolding certificates_at
-certificates-read problem certificates rest w none each few =
-    block-read (codes "certificates") (λ k. line_at (shapes.certificate_line problem.constraints (counts_of problem.inputs) k)) (λ p. reports.certificate_line problem p.0 p.1) (IsCertificate problem) refl refl
-    (certificate-read problem w none) certificates each few rest
+certificates-read problem certificates rest w each few =
+    block-read (codes "certificates") (λ k. line_at (shapes.certificate_line problem.constraints (counts_of problem.inputs) (length (givens problem)) k)) (λ p. reports.certificate_line problem p.0 p.1) (IsCertificate problem) refl refl
+    (certificate-read problem w) certificates each few rest
 
 -- ---- cuts
 cut-read : (problem : Problem) (certificates : ℕ) → IsWellFormed problem → certificates ≤ NUMBER_LIMIT

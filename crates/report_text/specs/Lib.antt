@@ -3,3 +3,4 @@ pub mod Summary
 pub mod Reports
 pub mod Listings
 pub mod Printable
+pub mod Posed

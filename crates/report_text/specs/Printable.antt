@@ -1,17 +1,17 @@
 -- Typologies that can be printed, and the law that their reports are read back.
-use Rattle.std.specs.Prelude.{◌≡◌, ◌≤◌, ◌<◌, ℕ, Bool, true, not, ◌&&◌, ◌==◌, ⊤, List, length, map, fold, max, All, Contains, Result, Ok, Err}
+use Rattle.std.specs.Prelude.{◌≡◌, ◌≤◌, ◌<◌, ℕ, Bool, true, not, ◌&&◌, ◌==◌, ⊤, List, length, map, fold, max, All, Contains, Option, Result, Ok, Err}
 use Rattle.std.specs.List.{list_all}
 use Rattle.ot_base.specs.Acceptable.{IsAcceptable}
-use Rattle.ot_base.specs.Tableaus.{problem_of}
 use Rattle.ot_base.specs.declared.tableau.InputRows.{InputRows}
 use Rattle.ot_base.specs.declared.tableau.Tableau.{Tableau}
 use Rattle.ot_theory.specs.Languages.{Term, IsTypology}
-use Rattle.ot_theory.specs.Problems.{Problem}
+use Rattle.ot_theory.specs.Problems.{Pair, Problem}
 use Rattle.ot_theory.specs.Refutations as refutations
 use Rattle.ot_theory.specs.Refutations.{is_term, is_contradiction}
 use Rattle.refutation.specs.Typologies.{found_of, cuts_of, certificates_of}
 use Rattle.refutation.specs.declared.typology.Typology.{Typology}
 use Rattle.report_reader.specs.Grammar.{found, report_at, IsRead}
+use Rattle.report_text.specs.Posed.{ArePairs, posed}
 use Rattle.report_text.specs.Reports.{typology_report}
 use Rattle.report_reader.specs.declared.reading.TheConstants.{REPORT_LIMIT}
 use Rattle.report_reader.specs.declared.reading.TextError.{TextError}
@@ -77,13 +77,13 @@ pub record IsTypologyFound (problem : Problem) (languages : List (List ℕ × Li
 abbrev pub IsPrintableWhereFound : Problem → List (List ℕ × List ℕ) → List (List Term) → List (List ℕ × ℕ) → Type 0
 IsPrintableWhereFound problem languages certificates cuts = IsTypologyFound problem languages certificates cuts → IsPrintable problem languages certificates cuts
 
--- The report of a printable typology, of a tableau within the limits and with plain texts, is read as that typology, unless
--- it is longer than can be read.
-abbrev pub IsReadBack : Tableau → List (List ℕ × List ℕ) → List (List Term) → List (List ℕ × ℕ) → Type 0
-IsReadBack tableau languages certificates cuts =
-    IsAcceptable tableau → IsPlain tableau → IsPrintable (problem_of tableau) languages certificates cuts
-    → length (typology_report tableau (problem_of tableau) languages certificates cuts) ≤ REPORT_LIMIT
-    → report_at (typology_report tableau (problem_of tableau) languages certificates cuts)
+-- The report of a printable typology, of a tableau within the limits and with plain texts, and of given pairs where there are some, is
+-- read as that typology, unless it is longer than can be read.
+abbrev pub IsReadBack : Tableau → Option (List Pair) → List (List ℕ × List ℕ) → List (List Term) → List (List ℕ × ℕ) → Type 0
+IsReadBack tableau given languages certificates cuts =
+    IsAcceptable tableau → IsPlain tableau → ArePairs tableau given → IsPrintable (posed tableau given) languages certificates cuts
+    → length (typology_report tableau (posed tableau given) languages certificates cuts) ≤ REPORT_LIMIT
+    → report_at (typology_report tableau (posed tableau given) languages certificates cuts)
     ≡ Ok (record { languages = languages; certificates = certificates; cuts = cuts })
 
 -- Reading gave this typology, or there was no memory: no line is bad.
@@ -93,11 +93,11 @@ IsThis typology (Err errors.NoMemory) = ⊤
 IsThis typology (Err (errors.BadLine number)) = ⊥
 
 -- What the call that reads reports answers to the report of a printable typology.
-abbrev pub IsAnsweredBack : Tableau → Typology → Result Typology TextError → Type 0
-IsAnsweredBack tableau typology answer =
+abbrev pub IsAnsweredBack : Tableau → Option (List Pair) → Typology → Result Typology TextError → Type 0
+IsAnsweredBack tableau given typology answer =
     let languages = found_of typology.languages in
     let certificates = certificates_of typology.certificates in
     let cuts = cuts_of typology.cuts in
-    let report = typology_report tableau (problem_of tableau) languages certificates cuts in
-    IsAcceptable tableau → IsPlain tableau → IsPrintable (problem_of tableau) languages certificates cuts → length report ≤ REPORT_LIMIT
+    let report = typology_report tableau (posed tableau given) languages certificates cuts in
+    IsAcceptable tableau → IsPlain tableau → ArePairs tableau given → IsPrintable (posed tableau given) languages certificates cuts → length report ≤ REPORT_LIMIT
     → IsRead report answer → IsThis typology answer

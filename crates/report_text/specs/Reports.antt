@@ -7,7 +7,7 @@ use Rattle.ot_base.specs.declared.tableau.InputRows.{InputRows}
 use Rattle.ot_theory.specs.Conditions.{fusion}
 use Rattle.ot_theory.specs.Hierarchies.{in_stratum, order_along}
 use Rattle.ot_theory.specs.Languages.{Term, condition_of}
-use Rattle.ot_theory.specs.Problems.{Problem, Input, same_profile}
+use Rattle.ot_theory.specs.Problems.{Problem, Input, Pair, same_profile}
 use Rattle.report_text.specs.Spelling.{line, spaced, output, stratum, stratum_count, hierarchy, prefix, winner, marks, terms}
 
 abbrev pub title : List ℕ → List ℕ
@@ -37,6 +37,19 @@ input_lines i rows input =
     line (codes "input" ∷ decimal i ∷ rows.text ∷ decimal (length input.classes) ∷ [])
     ++ flat_map (λ (a, profile). class_line i rows a profile) (enumerate_from 1 input.classes)
 
+-- the line of a given pair: its number, and those of its upper and its lower constraint, all counted from 1
+abbrev pub given_line : ℕ → Pair → List ℕ
+given_line k pair = line (codes "given" ∷ decimal k ∷ decimal (pair.above + 1) ∷ decimal (pair.below + 1) ∷ [])
+
+-- the number of given pairs, and a line for each
+abbrev pub pair_lines : List Pair → List ℕ
+pair_lines pairs =
+    line (codes "givens" ∷ decimal (length pairs) ∷ []) ++ flat_map (λ (k, pair). given_line k pair) (enumerate_from 1 pairs)
+
+-- the same where pairs were given, of which there may be none
+abbrev pub given_lines : Problem → List ℕ
+given_lines problem = option_map_or pair_lines problem.given []
+
 -- what every report begins with
 unfoldable pub head : List ℕ → Tableau → Problem → List ℕ
 head command tableau problem =
@@ -44,6 +57,7 @@ head command tableau problem =
     ++ constraint_lines tableau
     ++ line (codes "inputs" ∷ decimal (length tableau.inputs) ∷ [])
     ++ flat_map (λ (i, input). input_lines i input.0 input.1) (enumerate_from 1 (zip tableau.inputs problem.inputs))
+    ++ given_lines problem
 
 -- the winner of each input, or that it has none
 abbrev pub winner_lines : Problem → List ℕ

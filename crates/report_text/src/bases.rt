@@ -1,9 +1,9 @@
 //! The report of the command `bases`.
 
 ghost use Rattle.std.specs.Prelude.{◌≡◌, ◌++◌, length, IsTrue, IfOk, OnOk};
-ghost use Rattle.ot_base.specs.Tableaus.{problem_of};
 ghost use Rattle.ot_theory.specs.Refutations.{is_term};
 ghost use Rattle.refutation.specs.Terms.{are_terms, term_of, terms_in};
+ghost use Rattle.report_text.specs.Posed.{Poses};
 ghost use Rattle.report_text.specs.Listings as listings;
 
 use crate::head::put_head;
@@ -21,9 +21,9 @@ use violation_profiles::Problem;
 /// and L (Prince 2002), each with its term, and the members of the informative and of the skeletal basis (after Brasoveanu and
 /// Prince 2011), side by side.
 ///
-/// `p` is the problem of `t`, and the two bases are of equal length. They are printed in the order in which they stand.
+/// `p` is the problem of `t`, with given pairs or without, and the two bases are of equal length. They are printed in the order in which they stand.
 pub fn bases_text(alloc: Global, t: &Tableau, p: &Problem, b: &Bases) -> Result<Label, NoMemory>
-    requires poses { p.now ≡ problem_of t.now }
+    requires poses { Poses t.now p.now }
     requires same_length { length b.now.skeletal ≡ length b.now.informative }
     ensures { IfOk result (λ text. text ≡ listings.bases_report t.now p.now b.now.informative b.now.skeletal) }
 {

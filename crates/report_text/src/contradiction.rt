@@ -1,9 +1,9 @@
 //! The report of a command that finds that no ranking keeps the conditions of the winners.
 
 ghost use Rattle.std.specs.Prelude.{◌≡◌, ◌++◌, IsTrue, IfOk, OnOk};
-ghost use Rattle.ot_base.specs.Tableaus.{problem_of};
 ghost use Rattle.ot_theory.specs.Refutations.{is_contradiction};
 ghost use Rattle.refutation.specs.Terms.{terms_in};
+ghost use Rattle.report_text.specs.Posed.{Poses};
 ghost use Rattle.report_text.specs.Reports as reports;
 
 use crate::head::put_head;
@@ -18,7 +18,7 @@ use violation_profiles::Problem;
 
 /// The whole report of a command where no ranking keeps the conditions of the winners: the head, with the name of the
 /// command, the winner of each input, and a line with the fusion of a contradiction's conditions (Prince 2002) and its
-/// terms. `p` is the problem of `t`, and `c` a genuine contradiction of it.
+/// terms. `p` is the problem of `t`, with given pairs or without, and `c` a genuine contradiction of it.
 pub fn contradiction_text(
     alloc: Global,
     t: &Tableau,
@@ -26,7 +26,7 @@ pub fn contradiction_text(
     command: &str,
     c: &Contradiction,
 ) -> Result<Label, NoMemory>
-    requires poses { p.now ≡ problem_of t.now }
+    requires poses { Poses t.now p.now }
     requires genuine { IsTrue (is_contradiction p.now (terms_in c.now.terms)) }
     ensures { IfOk result (λ text. text ≡ reports.contradiction_report command.now t.now p.now (terms_in c.now.terms)) }
 {

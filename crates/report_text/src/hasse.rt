@@ -2,7 +2,7 @@
 
 ghost use Rattle.std.specs.Prelude.{◌≡◌, ◌++◌, length, All, IfOk, OnOk};
 ghost use Rattle.ot_base.specs.Acceptable.{IsAcceptable};
-ghost use Rattle.ot_base.specs.Tableaus.{problem_of};
+ghost use Rattle.report_text.specs.Posed.{Poses};
 ghost use Rattle.report_text.specs.Listings as listings;
 ghost use Rattle.report_text.specs.Listings.{IsPair};
 
@@ -17,11 +17,11 @@ use violation_profiles::Problem;
 /// The whole report of the command `hasse`: the head, the winner of each input, and the covers of the winners' conditions
 /// (Prince 2002), each as the upper and the lower of two constraints, by their numbers and then by their abbreviations.
 ///
-/// `p` is the problem of `t`, and each cover of `c` is two of its constraints, such as those of `hasse_listing`. They are
+/// `p` is the problem of `t`, with given pairs or without, and each cover of `c` is two of its constraints, such as those of `hasse_listing`. They are
 /// printed in the order in which they stand.
 pub fn hasse_text(alloc: Global, t: &Tableau, p: &Problem, c: &[Cover]) -> Result<Label, NoMemory>
     requires acceptable { IsAcceptable t.now }
-    requires poses { p.now ≡ problem_of t.now }
+    requires poses { Poses t.now p.now }
     requires within { All (IsPair p.now.constraints) c.now }
     ensures { IfOk result (λ text. text ≡ listings.hasse_report t.now p.now c.now) }
 {

@@ -1,26 +1,29 @@
 //! What every report begins with: the title, the constraints, and the inputs with their classes.
 
-ghost use Rattle.std.specs.Prelude.{◌≡◌, ◌+◌, ◌<◌, ◌∷◌, [], ◌++◌, length, codes, decimal, flat_map, map, slice_get, All, OnOk, Some};
+ghost use Rattle.std.specs.Prelude.{◌≡◌, ◌+◌, ◌<◌, ◌≤◌, ◌∷◌, [], ◌++◌, length, codes, decimal, flat_map, map, slice_get, All, OnOk, Some};
 ghost use Rattle.ot_theory.specs.Problems.{members_of};
-ghost use Rattle.ot_base.specs.Tableaus.{input_of_rows, problem_of};
+ghost use Rattle.ot_base.specs.Tableaus.{input_of_rows, pair_of, pairs_in};
+ghost use Rattle.ot_base.specs.declared.limits.TheConstants.{GIVEN_LIMIT};
+ghost use Rattle.report_text.specs.Posed.{Poses};
 ghost use Rattle.report_text.specs.Spelling.{line, spaced};
 ghost use Rattle.report_text.specs.Reports as reports;
 
 use crate::numbers::put_numbers;
 use crate::text::Text;
 use erc_vectors::NoMemory;
-use ot_base::{ClassId, InId, InputRows, Label, Tableau};
+use ot_base::{ClassId, InId, InputRows, Label, Pair, Tableau};
 use violation_profiles::Problem;
 
 /// What stands in the report of a command before the part that is its own: the title, the constraints with their
-/// abbreviations and names, and the inputs, each with its classes, their profiles and the texts of their members.
+/// abbreviations and names, the inputs, each with its classes, their profiles and the texts of their members, and the given pairs, where
+/// pairs were given.
 pub(crate) fn put_head(
     text: &mut Text,
     command: &[u8],
     tableau: &Tableau,
     problem: &Problem,
 ) -> Result<(), NoMemory>
-    requires { problem.now ≡ problem_of tableau.now }
+    requires { Poses tableau.now problem.now }
     ensures { OnOk result (text.new ≡ text.old ++ reports.head command.now tableau.now problem.now) }
 {
     put_title(text, command)?;
@@ -29,7 +32,40 @@ pub(crate) fn put_head(
     for (i, rows) in tableau.inputs.as_slice().iter().enumerate() {
         put_input(text, InId(i as u32), rows, problem)?;
     }
+    put_givens(text, problem)
+}
+
+/// The number of given pairs, and a line for each, where pairs were given.
+fn put_givens(text: &mut Text, problem: &Problem) -> Result<(), NoMemory>
+    ensures { OnOk result (text.new ≡ text.old ++ reports.given_lines problem.now) }
+{
+    if !problem.has_givens() {
+        return Ok(());
+    }
+    put_pairs(text, problem.givens())
+}
+
+/// The number of given pairs, and a line for each.
+fn put_pairs(text: &mut Text, pairs: &[Pair]) -> Result<(), NoMemory>
+    requires { length pairs.now ≤ GIVEN_LIMIT }
+    ensures { OnOk result (text.new ≡ text.old ++ reports.pair_lines (pairs_in pairs.now)) }
+{
+    text.count_line(b"givens", pairs.len())?;
+    for (k, pair) in pairs.iter().enumerate() {
+        put_pair(text, k + 1, *pair)?;
+    }
     Ok(())
+}
+
+/// The line of a given pair: its number, and those of its upper and its lower constraint.
+fn put_pair(text: &mut Text, number: usize, pair: Pair) -> Result<(), NoMemory>
+    ensures { OnOk result (text.new ≡ text.old ++ reports.given_line number (pair_of pair)) }
+{
+    text.put(b"given")?;
+    text.number_field(number)?;
+    text.number_field(pair.above.0 as usize + 1)?;
+    text.number_field(pair.below.0 as usize + 1)?;
+    text.end_line()
 }
 
 /// The line that a report begins with.

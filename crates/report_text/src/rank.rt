@@ -2,7 +2,7 @@
 
 ghost use Rattle.std.specs.Prelude.{◌≡◌, ◌++◌, length, IfOk, OnOk};
 ghost use Rattle.ot_base.specs.Acceptable.{IsAcceptable};
-ghost use Rattle.ot_base.specs.Tableaus.{problem_of};
+ghost use Rattle.report_text.specs.Posed.{Poses};
 ghost use Rattle.report_text.specs.Reports as reports;
 
 use crate::head::put_head;
@@ -21,7 +21,7 @@ use violation_profiles::Problem;
 /// input that has a winner.
 ///
 /// The columns of a tableau stand in the order of the hierarchy. A loser's row has a mark behind its fatal violation, at
-/// the first constraint of that order on which it differs from the winner. `p` is the problem of `t`, and `s` a hierarchy
+/// the first constraint of that order on which it differs from the winner. `p` is the problem of `t`, with given pairs or without, and `s` a hierarchy
 /// of its constraints, such as one that satisfies the conditions of all winners.
 pub fn rank_text(
     alloc: Global,
@@ -31,7 +31,7 @@ pub fn rank_text(
     r: Option<u32>,
 ) -> Result<Label, NoMemory>
     requires acceptable { IsAcceptable t.now }
-    requires poses { p.now ≡ problem_of t.now }
+    requires poses { Poses t.now p.now }
     requires width { length s.now ≡ p.now.constraints }
     ensures { IfOk result (λ text. text ≡ reports.rank_report t.now p.now s.now r) }
 {

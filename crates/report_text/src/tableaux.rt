@@ -5,9 +5,9 @@ ghost use Rattle.std.specs.Option.{option_map_or};
 ghost use Rattle.std.specs.List.{enumerate_from};
 ghost use Rattle.ot_theory.specs.Problems.{Input};
 ghost use Rattle.ot_theory.specs.Languages.{classes_at, profile_at};
-ghost use Rattle.ot_base.specs.Tableaus.{problem_of};
 ghost use Rattle.ot_base.specs.declared.limits.TheConstants.{INPUT_LIMIT, CANDIDATE_LIMIT};
 ghost use Rattle.ot_theory.specs.Rankings.{IsRanking};
+ghost use Rattle.report_text.specs.Posed.{Poses};
 ghost use Rattle.report_text.specs.Spelling.{behind, line, marked};
 ghost use Rattle.report_text.specs.Reports as reports;
 
@@ -24,7 +24,7 @@ pub(crate) fn put_tableaux(
     tableau: &Tableau,
     problem: &Problem,
 ) -> Result<(), NoMemory>
-    requires poses { problem.now ≡ problem_of tableau.now }
+    requires poses { Poses tableau.now problem.now }
     requires few { length tableau.now.inputs ≤ INPUT_LIMIT }
     requires width { length order.now ≡ problem.now.constraints }
     requires ranking { IsRanking (length order.now) order.now }

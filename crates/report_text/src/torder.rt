@@ -1,7 +1,7 @@
 //! The report of the command `torder`.
 
 ghost use Rattle.std.specs.Prelude.{◌≡◌, ◌++◌, IfOk, OnOk};
-ghost use Rattle.ot_base.specs.Tableaus.{problem_of};
+ghost use Rattle.report_text.specs.Posed.{Poses};
 ghost use Rattle.report_text.specs.Listings as listings;
 
 use crate::head::put_head;
@@ -16,14 +16,14 @@ use violation_profiles::Problem;
 /// the implying output and the implied one, an output being an input and a class of it by their numbers. The winners play no
 /// part.
 ///
-/// `p` is the problem of `t`. The implications are printed in the order in which they stand.
+/// `p` is the problem of `t`, with given pairs or without. The implications are printed in the order in which they stand.
 pub fn torder_text(
     alloc: Global,
     t: &Tableau,
     p: &Problem,
     l: &[Implication],
 ) -> Result<Label, NoMemory>
-    requires poses { p.now ≡ problem_of t.now }
+    requires poses { Poses t.now p.now }
     ensures { IfOk result (λ text. text ≡ listings.torder_report t.now p.now l.now) }
 {
     let mut text = Text::new(alloc);

@@ -1,10 +1,10 @@
 //! The report of a factorial typology: its languages, and what shows that the other choices are none.
 
 ghost use Rattle.std.specs.Prelude.{◌≡◌, ◌-◌, ◌^◌, ◌++◌, ◌<◌, ◌≤◌, length, take, codes, All, IsTrue, IfOk, OnOk};
-ghost use Rattle.ot_base.specs.Tableaus.{problem_of};
 ghost use Rattle.refutation.specs.Prefixes.{class_numbers};
 ghost use Rattle.refutation.specs.Terms.{are_terms, terms_in};
 ghost use Rattle.refutation.specs.Typologies.{found_of, cuts_of, certificates_of};
+ghost use Rattle.report_text.specs.Posed.{Poses};
 ghost use Rattle.report_text.specs.Spelling.{each_behind_space};
 ghost use Rattle.report_text.specs.Reports as reports;
 
@@ -24,7 +24,7 @@ use violation_profiles::Problem;
 /// (Tesar and Smolensky 2000), the certificates, each with the fusion of its conditions (Prince 2002) and its terms, and the
 /// cuts, each with its classes by input and the number of its certificate.
 ///
-/// `p` is the problem of `t`. Each certificate of `y` has at least one term, each of its terms is in range for `p`, with a
+/// `p` is the problem of `t`, with given pairs or without. Each certificate of `y` has at least one term, each of its terms is in range for `p`, with a
 /// loser other than the winner, and each cut names one of the certificates.
 pub fn typology_text(
     alloc: Global,
@@ -32,7 +32,7 @@ pub fn typology_text(
     p: &Problem,
     y: &Typology,
 ) -> Result<Label, NoMemory>
-    requires poses { p.now ≡ problem_of t.now }
+    requires poses { Poses t.now p.now }
     requires some_term { All (λ certificate. 0 < length certificate.terms) y.now.certificates }
     requires terms { All (λ certificate. IsTrue (are_terms p.now certificate.terms)) y.now.certificates }
     requires named { All (λ cut. cut.certificate < length y.now.certificates) y.now.cuts }
@@ -54,7 +54,7 @@ pub fn compact_typology_text(
     p: &Problem,
     y: &CompactTypology,
 ) -> Result<Label, NoMemory>
-    requires poses { p.now ≡ problem_of t.now }
+    requires poses { Poses t.now p.now }
     requires some_term { All (λ certificate. 0 < length certificate.terms) y.now.certificates }
     requires terms { All (λ certificate. IsTrue (are_terms p.now certificate.terms)) y.now.certificates }
     requires named { All (λ cut. cut.certificate < length y.now.certificates) y.now.cuts }
@@ -77,7 +77,7 @@ fn text_before_cuts(
     languages: &[Language],
     certificates: &[Contradiction],
 ) -> Result<Text, NoMemory>
-    requires poses { p.now ≡ problem_of t.now }
+    requires poses { Poses t.now p.now }
     requires some_term { All (λ certificate. 0 < length certificate.terms) certificates.now }
     requires terms { All (λ certificate. IsTrue (are_terms p.now certificate.terms)) certificates.now }
     ensures { IfOk result (λ text. text ≡ reports.head (codes "typology") t.now p.now ++ reports.language_lines (found_of languages.now) ++ reports.certificate_lines p.now (certificates_of certificates.now)) }

@@ -7,4 +7,4 @@ use Rattle.report_reader.proofs.blocks.certificates_of.Given as goal
 
 -- those so far, and those of the lines that are left
 abbrev pub invariant-loop-k : goal.invariant-loop-k
-invariant-loop-k l = with_front (certificates_of l.certificates) (each_at (λ k. line_at (certificate_line l.head.constraints l.head.counts k)) (l.k + 1) (l.count - l.k) l.rest) ≡ each_at (λ k. line_at (certificate_line l.head.constraints l.head.counts k)) 1 l.count l.bytes
+invariant-loop-k l = with_front (certificates_of l.certificates) (each_at (λ k. line_at (certificate_line l.head.constraints l.head.counts l.head.pairs k)) (l.k + 1) (l.count - l.k) l.rest) ≡ each_at (λ k. line_at (certificate_line l.head.constraints l.head.counts l.head.pairs k)) 1 l.count l.bytes

@@ -6,4 +6,4 @@ use Rattle.report_reader.proofs.fields.read_terms.Given as goal
 
 -- those so far, and those of the words that are left
 abbrev pub invariant-loop-word : goal.invariant-loop-word
-invariant-loop-word l = with_before (terms_in l.buffer.items) (terms_of l.counts l.word-iterator) ≡ terms_of l.counts (words l.field)
+invariant-loop-word l = with_before (terms_in l.buffer.items) (terms_of l.counts l.pairs l.word-iterator) ≡ terms_of l.counts l.pairs (words l.field)
