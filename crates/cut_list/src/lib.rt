@@ -9,8 +9,6 @@ mod compact;
 mod front;
 mod list;
 mod shared;
-#[cfg(test)]
-mod tests;
 
 pub use compact::CompactTypology;
 pub use front::common_front;

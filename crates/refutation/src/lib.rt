@@ -19,8 +19,6 @@ mod prefix;
 mod refuting;
 mod shared;
 mod term;
-#[cfg(test)]
-mod tests;
 mod typology;
 mod winners;
 

@@ -16,8 +16,6 @@ mod masks;
 mod planes;
 mod problem;
 mod shared;
-#[cfg(test)]
-mod tests;
 mod winner;
 
 pub use laws::{optimal_by_conditions, winner_by_counts};

@@ -4,7 +4,7 @@ use Rattle.ot_theory.proofs.Optimal.{refuted-conditions}
 use Rattle.violation_profiles.proofs.Inputs.{AllFit-prefix}
 use Rattle.refutation.specs.Prefixes.{class_numbers}
 use Rattle.refutation.specs.Terms.{terms_in}
-use Rattle.refutation.proofs.tests.is_refuted.Goals as goal
+use Rattle.refutation_rows.proofs.certificates.is_refuted.Goals as goal
 
 pub returns : goal.returns
 returns c =

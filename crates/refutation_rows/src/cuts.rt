@@ -1,4 +1,6 @@
-use crate::CutList;
+//! The list of cuts.
+
+use cut_list::CutList;
 use erc_vectors::NoMemory;
 use ot_base::ClassId;
 

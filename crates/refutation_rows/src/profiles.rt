@@ -1,31 +1,16 @@
-ghost use Rattle.std.specs.Prelude.{◌≡◌, ◌<◌, length, IfOk};
-ghost use Rattle.ot_base.specs.Acceptable.{AreRows, IsAcceptable};
+//! The classes of inputs, their winners, and the conditions between classes.
 
-use crate::Problem;
-use erc_vectors::{ConId, List, NoMemory};
-use ot_base::{ClassId, InId, InputRows, Tableau, input_of, tableau_of};
+ghost use Rattle.std.specs.Prelude.{◌<◌, length};
+
+use crate::problems::problem;
+use crate::shown::push_marks;
+use ot_base::{ClassId, InId};
 use std::alloc::Global;
 use std::test::Fail;
+use violation_profiles::Problem;
 
 /// A candidate's count and its violations of four constraints.
 type Row = (u64, [u8; 4]);
-
-fn tableau(alloc: Global, rows: &[[Row; 3]; 2]) -> Result<Tableau, NoMemory>
-    ensures { IfOk result IsAcceptable }
-{
-    let mut inputs = List::new(alloc);
-    inputs.push(input(alloc, &rows[0])?)?;
-    inputs.push(input(alloc, &rows[1])?)?;
-    let names = ["A", "B", "C", "D"];
-    tableau_of(alloc, &names, &names, inputs)
-}
-
-fn input(alloc: Global, rows: &[Row; 3]) -> Result<InputRows, NoMemory>
-    ensures rows { IfOk result (λ input. AreRows 4 input) }
-    ensures candidates { IfOk result (λ input. length input.candidates ≡ 3) }
-{
-    input_of(alloc, "", &rows.map(|(count, marks)| ("", count, marks)))
-}
 
 /// The marks of the conditions of each class of an input over each other one.
 fn push_conditions(text: &mut String, problem: &Problem, i: InId) -> Result<(), Fail>
@@ -35,11 +20,7 @@ fn push_conditions(text: &mut String, problem: &Problem, i: InId) -> Result<(), 
         for b in 0..problem.classes(i) {
             if a != b {
                 let condition = problem.condition(i, ClassId(a as u16), ClassId(b as u16));
-                for c in 0..condition.width() {
-                    let mark = condition.mark(ConId(c as u16));
-                    write!(text, "{mark:?}")?;
-                }
-                text.push(' ')?;
+                push_marks(text, &condition)?;
             }
         }
     }
@@ -66,8 +47,7 @@ fn shown(alloc: Global, problem: &Problem) -> Result<String, Fail> {
 
 /// What a tableau of these rows poses.
 fn posed(alloc: Global, rows: &[[Row; 3]; 2]) -> Result<String, Fail> {
-    let problem = Problem::of(alloc, &tableau(alloc, rows)?)?;
-    shown(alloc, &problem)
+    shown(alloc, &problem(alloc, rows)?)
 }
 
 #[test]

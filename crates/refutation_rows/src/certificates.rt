@@ -1,29 +1,32 @@
-ghost use Rattle.std.specs.Prelude.{◌≡◌, length, IfOk, IsTrue, true};
-ghost use Rattle.ot_base.specs.Acceptable.{AreRows};
+//! Terms, contradictions, certificates and prefixes.
+
+ghost use Rattle.std.specs.Prelude.{◌≡◌, IfOk};
 ghost use Rattle.ot_theory.specs.Languages.{refuted};
 ghost use Rattle.refutation.specs.Prefixes.{class_numbers};
 ghost use Rattle.violation_profiles.specs.WellFormed.{IsPrefix};
 
-use crate::{
+use crate::problems::problem;
+use crate::shown::{push_marks, shown};
+use demotion::is_hopeless;
+use erc_vectors::{ConId, List, NoMemory};
+use ot_base::{ClassId, InId};
+use refutation::{
     Contradiction, Finding, Prefix, Term, condition_of, conditions_of, core_of, deletion_core,
     is_genuine, is_prefix, judge_terms, refutes, terms_of, winner_terms,
 };
-use demotion::is_hopeless;
-use erc_vectors::{ConId, List, NoMemory};
-use ot_base::{ClassId, InId, InputRows, input_of, tableau_of};
 use std::alloc::Global;
 use std::process::Abort;
 use std::test::Fail;
 use violation_profiles::Problem;
 
 /// A candidate's count and its violations of three constraints.
-type Row = (u64, [u8; 3]);
+pub(crate) type Row = (u64, [u8; 3]);
 
 /// The candidates of two inputs.
-type Rows = [[Row; 3]; 2];
+pub(crate) type Rows = [[Row; 3]; 2];
 
 /// A stop after a vowel: kept, dropped, or made an onset.
-fn stops(first: [u64; 3], second: [u64; 3]) -> Rows {
+pub(crate) fn stops(first: [u64; 3], second: [u64; 3]) -> Rows {
     [first, second].map(|counts| {
         [
             (counts[0], [1, 0, 0]),
@@ -45,45 +48,6 @@ const COMPROMISE: Rows = [
     [(1, [0, 0, 0]), (1, [0, 0, 0]), (1, [0, 0, 0])],
 ];
 
-fn input(alloc: Global, rows: &[Row; 3]) -> Result<InputRows, NoMemory>
-    ensures rows { IfOk result (λ input. AreRows 3 input) }
-    ensures candidates { IfOk result (λ input. length input.candidates ≡ 3) }
-{
-    input_of(alloc, "", &rows.map(|(count, marks)| ("", count, marks)))
-}
-
-fn problem(alloc: Global, rows: &Rows) -> Result<Problem, NoMemory> {
-    let mut inputs = List::new(alloc);
-    inputs.push(input(alloc, &rows[0])?)?;
-    inputs.push(input(alloc, &rows[1])?)?;
-    let names = ["A", "B", "C"];
-    Problem::of(alloc, &tableau_of(alloc, &names, &names, inputs)?)
-}
-
-/// The terms with their numbers counted from 1.
-fn shown(alloc: Global, terms: &[Term]) -> Result<String, Fail> {
-    let mut text = String::new(alloc);
-    for term in terms {
-        match term {
-            Term::Loser {
-                input,
-                winner,
-                loser,
-            } => {
-                let i = input.0.saturating_add(1);
-                let a = winner.0.saturating_add(1);
-                let b = loser.0.saturating_add(1);
-                write!(text, "{i}:{a}>{b} ")?;
-            }
-            Term::Given(k) => {
-                let k = k.saturating_add(1);
-                write!(text, "g{k} ")?;
-            }
-        }
-    }
-    Ok(text)
-}
-
 /// A contradiction of terms whose numbers are counted from 0.
 fn contradiction(alloc: Global, terms: &[(u32, u16, u16)]) -> Result<Contradiction, NoMemory> {
     let mut list = List::new(alloc);
@@ -97,42 +61,46 @@ fn contradiction(alloc: Global, terms: &[(u32, u16, u16)]) -> Result<Contradicti
     Ok(Contradiction { terms: list })
 }
 
-/// The terms of the winners of these rows.
-fn winners(alloc: Global, rows: &Rows) -> Result<String, Fail> {
-    let problem = problem(alloc, rows)?;
-    let terms = winner_terms(alloc, &problem)?;
+/// The terms of the winners of a problem.
+pub(crate) fn winners(alloc: Global, problem: &Problem) -> Result<String, Fail> {
+    let terms = winner_terms(alloc, problem)?;
     shown(alloc, terms.as_slice())
 }
 
 #[test]
 fn winners_stand_against_all_other_classes(rt: HostRuntime) -> Result<(), Fail> {
-    let text = winners(rt.alloc(), &stops([1, 0, 0], [0, 1, 0]))?;
-    assert_eq!(rt; text.as_str(), "1:1>2 1:1>3 2:2>1 2:2>3 ");
-    let text = winners(rt.alloc(), &stops([0, 0, 0], [0, 0, 4]))?;
-    assert_eq!(rt; text.as_str(), "2:3>1 2:3>2 ");
-    let text = winners(rt.alloc(), &PAIRS)?;
-    assert_eq!(rt; text.as_str(), "1:1>2 2:1>2 ");
+    let cases: [(&Rows, &str); 3] = [
+        (&stops([1, 0, 0], [0, 1, 0]), "1:1>2 1:1>3 2:2>1 2:2>3 "),
+        (&stops([0, 0, 0], [0, 0, 4]), "2:3>1 2:3>2 "),
+        (&PAIRS, "1:1>2 2:1>2 "),
+    ];
+    for (rows, want) in cases {
+        let text = winners(rt.alloc(), &problem(rt.alloc(), rows)?)?;
+        assert_eq!(rt; text.as_str(), want);
+    }
     Ok(())
 }
 
-/// The certificate of the winners of these rows, which no ranking makes optimal.
-fn certificate(rt: &impl Abort, alloc: Global, rows: &Rows) -> Result<String, Fail> {
-    let problem = problem(alloc, rows)?;
-    let terms = winner_terms(alloc, &problem)?;
-    let conditions = conditions_of(alloc, &problem, terms.as_slice())?;
+/// The certificate of the winners of a problem, which no ranking makes optimal.
+pub(crate) fn certificate(
+    rt: &impl Abort,
+    alloc: Global,
+    problem: &Problem,
+) -> Result<String, Fail> {
+    let terms = winner_terms(alloc, problem)?;
+    let conditions = conditions_of(alloc, problem, terms.as_slice())?;
     assert!(rt; is_hopeless(problem.constraints(), &conditions));
-    let core = core_of(alloc, &problem, terms.as_slice())?;
-    assert!(rt; is_genuine(&problem, &core));
+    let core = core_of(alloc, problem, terms.as_slice())?;
+    assert!(rt; is_genuine(problem, &core));
     let copy = core.copy()?;
     shown(alloc, copy.terms.as_slice())
 }
 
-/// What the terms of the winners of these rows come to: the stratum of each constraint, or the certificate.
-fn judged(alloc: Global, rows: &Rows) -> Result<String, Fail> {
-    let problem = problem(alloc, rows)?;
-    let terms = winner_terms(alloc, &problem)?;
-    let conditions = conditions_of(alloc, &problem, terms.as_slice())?;
-    match judge_terms(alloc, &problem, terms.as_slice(), conditions)? {
+/// What the terms of the winners of a problem come to: the stratum of each constraint, or the certificate.
+pub(crate) fn judged(alloc: Global, problem: &Problem) -> Result<String, Fail> {
+    let terms = winner_terms(alloc, problem)?;
+    let conditions = conditions_of(alloc, problem, terms.as_slice())?;
+    match judge_terms(alloc, problem, terms.as_slice(), conditions)? {
         Finding::Holds(strata) => {
             let mut text = String::new(alloc);
             for c in 0..strata.width() {
@@ -147,27 +115,35 @@ fn judged(alloc: Global, rows: &Rows) -> Result<String, Fail> {
 
 #[test]
 fn winners_are_judged(rt: HostRuntime) -> Result<(), Fail> {
-    let text = judged(rt.alloc(), &stops([0, 0, 0], [0, 0, 0]))?;
-    assert_eq!(rt; text.as_str(), "1 1 1 ", "no winner");
-    let text = judged(rt.alloc(), &stops([1, 0, 0], [1, 0, 0]))?;
-    assert_eq!(rt; text.as_str(), "2 1 1 ", "repaired alike");
-    let text = judged(rt.alloc(), &PAIRS)?;
-    assert_eq!(rt; text.as_str(), "1 2 3 ", "three strata");
-    let text = judged(rt.alloc(), &stops([1, 0, 0], [0, 1, 0]))?;
-    assert_eq!(rt; text.as_str(), "1:1>2 2:2>1 ", "repaired otherwise");
-    let text = judged(rt.alloc(), &COMPROMISE)?;
-    assert_eq!(rt; text.as_str(), "1:3>1 1:3>2 ", "a compromise");
+    let cases: [(&str, &Rows, &str); 5] = [
+        ("no winner", &stops([0, 0, 0], [0, 0, 0]), "1 1 1 "),
+        ("repaired alike", &stops([1, 0, 0], [1, 0, 0]), "2 1 1 "),
+        ("three strata", &PAIRS, "1 2 3 "),
+        (
+            "repaired otherwise",
+            &stops([1, 0, 0], [0, 1, 0]),
+            "1:1>2 2:2>1 ",
+        ),
+        ("a compromise", &COMPROMISE, "1:3>1 1:3>2 "),
+    ];
+    for (name, rows, want) in cases {
+        let text = judged(rt.alloc(), &problem(rt.alloc(), rows)?)?;
+        assert_eq!(rt; text.as_str(), want, "{name}");
+    }
     Ok(())
 }
 
 #[test]
 fn certificates_of_winners(rt: HostRuntime) -> Result<(), Fail> {
-    let text = certificate(&rt, rt.alloc(), &stops([1, 0, 0], [0, 1, 0]))?;
-    assert_eq!(rt; text.as_str(), "1:1>2 2:2>1 ");
-    let text = certificate(&rt, rt.alloc(), &stops([0, 1, 0], [0, 0, 1]))?;
-    assert_eq!(rt; text.as_str(), "1:2>3 2:3>2 ");
-    let text = certificate(&rt, rt.alloc(), &COMPROMISE)?;
-    assert_eq!(rt; text.as_str(), "1:3>1 1:3>2 ");
+    let cases: [(&Rows, &str); 3] = [
+        (&stops([1, 0, 0], [0, 1, 0]), "1:1>2 2:2>1 "),
+        (&stops([0, 1, 0], [0, 0, 1]), "1:2>3 2:3>2 "),
+        (&COMPROMISE, "1:3>1 1:3>2 "),
+    ];
+    for (rows, want) in cases {
+        let text = certificate(&rt, rt.alloc(), &problem(rt.alloc(), rows)?)?;
+        assert_eq!(rt; text.as_str(), want);
+    }
     Ok(())
 }
 
@@ -198,11 +174,7 @@ fn condition_of_a_term(rt: HostRuntime) -> Result<(), Fail> {
     let mut text = String::new(rt.alloc());
     for term in terms.as_slice() {
         let condition = condition_of(&problem, term);
-        for c in 0..condition.width() {
-            let mark = condition.mark(ConId(c as u16));
-            write!(text, "{mark:?}")?;
-        }
-        text.push(' ')?;
+        push_marks(&mut text, &condition)?;
     }
     assert_eq!(rt; text.as_str(), "WLE EWL ");
     Ok(())
@@ -218,11 +190,15 @@ fn is_refuted(alloc: Global, problem: &Problem, prefix: &[ClassId]) -> Result<bo
     Ok(is_hopeless(problem.constraints(), &conditions))
 }
 
-/// The terms of a prefix of these rows.
-fn terms(rt: &impl Abort, alloc: Global, rows: &Rows, prefix: &[ClassId]) -> Result<String, Fail> {
-    let problem = problem(alloc, rows)?;
-    assert!(rt; is_prefix(&problem, prefix));
-    let terms = terms_of(alloc, &problem, prefix)?;
+/// The terms of a prefix of a problem.
+pub(crate) fn terms(
+    rt: &impl Abort,
+    alloc: Global,
+    problem: &Problem,
+    prefix: &[ClassId],
+) -> Result<String, Fail> {
+    assert!(rt; is_prefix(problem, prefix));
+    let terms = terms_of(alloc, problem, prefix)?;
     shown(alloc, terms.as_slice())
 }
 
@@ -234,40 +210,43 @@ fn terms_of_prefixes(rt: HostRuntime) -> Result<(), Fail> {
         (&[ClassId(0), ClassId(1)], "1:1>2 1:1>3 2:2>1 2:2>3 "),
         (&[ClassId(2), ClassId(2)], "1:3>1 1:3>2 2:3>1 2:3>2 "),
     ];
+    let problem = problem(rt.alloc(), &stops([0, 0, 0], [0, 0, 0]))?;
     for (prefix, want) in cases {
-        let text = terms(&rt, rt.alloc(), &stops([0, 0, 0], [0, 0, 0]), prefix)?;
+        let text = terms(&rt, rt.alloc(), &problem, prefix)?;
         assert_eq!(rt; text.as_str(), want);
     }
     Ok(())
 }
 
-/// The certificate of a prefix of these rows, which no ranking makes optimal.
-fn certificate_of_prefix(
+/// The certificate of a prefix of a problem, which no ranking makes optimal.
+pub(crate) fn certificate_of_prefix(
     rt: &impl Abort,
     alloc: Global,
-    rows: &Rows,
+    problem: &Problem,
     prefix: &[ClassId],
 ) -> Result<String, Fail> {
-    let problem = problem(alloc, rows)?;
-    assert!(rt; is_prefix(&problem, prefix));
-    let hopeless = is_refuted(alloc, &problem, prefix)?;
+    assert!(rt; is_prefix(problem, prefix));
+    let hopeless = is_refuted(alloc, problem, prefix)?;
     assert!(rt; hopeless);
-    let core = deletion_core(alloc, &problem, prefix)?;
-    assert!(rt; is_genuine(&problem, &core));
+    let core = deletion_core(alloc, problem, prefix)?;
+    assert!(rt; is_genuine(problem, &core));
     assert!(rt; refutes(&core, prefix));
     shown(alloc, core.terms.as_slice())
 }
 
 #[test]
 fn certificates_of_prefixes(rt: HostRuntime) -> Result<(), Fail> {
-    let both = [ClassId(0), ClassId(1)];
-    let text = certificate_of_prefix(&rt, rt.alloc(), &stops([0, 0, 0], [0, 0, 0]), &both)?;
-    assert_eq!(rt; text.as_str(), "1:1>2 2:2>1 ");
-    let both = [ClassId(1), ClassId(2)];
-    let text = certificate_of_prefix(&rt, rt.alloc(), &stops([0, 0, 0], [0, 0, 0]), &both)?;
-    assert_eq!(rt; text.as_str(), "1:2>3 2:3>2 ");
-    let text = certificate_of_prefix(&rt, rt.alloc(), &COMPROMISE, &[ClassId(2)])?;
-    assert_eq!(rt; text.as_str(), "1:3>1 1:3>2 ");
+    let stops = stops([0, 0, 0], [0, 0, 0]);
+    let cases: [(&Rows, &[ClassId], &str); 3] = [
+        (&stops, &[ClassId(0), ClassId(1)], "1:1>2 2:2>1 "),
+        (&stops, &[ClassId(1), ClassId(2)], "1:2>3 2:3>2 "),
+        (&COMPROMISE, &[ClassId(2)], "1:3>1 1:3>2 "),
+    ];
+    for (rows, prefix, want) in cases {
+        let problem = problem(rt.alloc(), rows)?;
+        let text = certificate_of_prefix(&rt, rt.alloc(), &problem, prefix)?;
+        assert_eq!(rt; text.as_str(), want);
+    }
     Ok(())
 }
 
