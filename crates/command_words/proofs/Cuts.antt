@@ -1,7 +1,7 @@
 -- Cuts that go on behind what was read.
-use Rattle.std.proofs.Common.{◌≡◌, ℕ, List, [], ◌∷◌, ◌++◌, map, Option, Some, None, option_map, append_assoc, append-nil, refl, sym, ap, Bor}
+use Rattle.std.proofs.Common.{◌≡◌, ℕ, List, [], ◌∷◌, ◌++◌, map, Option, Some, None, option_map, append_assoc, refl, sym, ap, Bor}
 use Rattle.std.proofs.lemmas.List.{map-append}
-use Rattle.command_words.specs.Words.{Given, Cut, only_words, with_word, with_option}
+use Rattle.command_words.specs.Words.{Given, Cut, with_word, with_option}
 use Rattle.command_words.specs.CommandLines.{given, shown}
 use Rattle.command_words.specs.declared.cut.GivenOption.{GivenOption}
 use Rattle.command_words.specs.declared.cut.CommandLine.{CommandLine}

@@ -1,3 +1,4 @@
+pub mod Examples
 pub mod Commands
 pub mod Cuts
 pub mod Named

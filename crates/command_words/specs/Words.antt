@@ -119,6 +119,14 @@ schedule_in options = optional (number 20 0 (2 ^ 64 - 1)) (values_of (codes "sch
 abbrev pub faith_in : List Given → Option (Option (List ConId))
 faith_in options = optional constraint_list (values_of (codes "faith") options)
 
+-- The name of a file that an option names: any text that is not empty.
+abbrev pub file_name : List ℕ → Option (List ℕ)
+file_name text = if length text == 0 then None else Some text
+
+-- the file of given pairs, if the option was given
+abbrev pub given_in : List Given → Option (Option (List ℕ))
+given_in options = optional file_name (values_of (codes "given") options)
+
 abbrev pub is_among : List (List ℕ) → List ℕ → Bool
 is_among names name = list_any (λ known. bytes_eq name known) names
 
@@ -128,24 +136,27 @@ are_among names options = list_all (λ option. is_among names option.name) optio
 
 abbrev pub typology_of : List ℕ → List Given → Option Settings
 typology_of file options =
-    if are_among (codes "workers" ∷ codes "store" ∷ codes "schedule" ∷ []) options
-    then option_and_then (λ workers. option_and_then (λ places. option_map (λ schedule. Typology file workers places schedule) (schedule_in options)) (places_in options)) (workers_in options)
+    if are_among (codes "workers" ∷ codes "store" ∷ codes "schedule" ∷ codes "given" ∷ []) options
+    then option_and_then (λ workers. option_and_then (λ places. option_and_then (λ schedule. option_map (λ given. Typology file workers places schedule given) (given_in options)) (schedule_in options)) (places_in options)) (workers_in options)
     else None
 
 abbrev pub torder_of : List ℕ → List Given → Option Settings
 torder_of file options =
-    if are_among (codes "workers" ∷ codes "store" ∷ []) options
-    then option_and_then (λ workers. option_map (λ places. Torder file workers places) (places_in options)) (workers_in options)
+    if are_among (codes "workers" ∷ codes "store" ∷ codes "given" ∷ []) options
+    then option_and_then (λ workers. option_and_then (λ places. option_map (λ given. Torder file workers places given) (given_in options)) (places_in options)) (workers_in options)
     else None
 
 abbrev pub rank_of : List ℕ → List Given → Option Settings
-rank_of file options = if are_among (codes "faith" ∷ []) options then option_map (λ faith. Rank file faith) (faith_in options) else None
+rank_of file options =
+    if are_among (codes "faith" ∷ codes "given" ∷ []) options
+    then option_and_then (λ faith. option_map (λ given. Rank file faith given) (given_in options)) (faith_in options)
+    else None
 
 abbrev pub bases_of : List ℕ → List Given → Option Settings
-bases_of file options = if are_among [] options then Some (Bases file) else None
+bases_of file options = if are_among (codes "given" ∷ []) options then option_map (λ given. Bases file given) (given_in options) else None
 
 abbrev pub hasse_of : List ℕ → List Given → Option Settings
-hasse_of file options = if are_among [] options then Some (Hasse file) else None
+hasse_of file options = if are_among (codes "given" ∷ []) options then option_map (λ given. Hasse file given) (given_in options) else None
 
 -- `demo` takes a number in place of a file.
 abbrev pub demo_of : List ℕ → List Given → Option Settings
@@ -181,29 +192,38 @@ settings_of words = option_and_then (λ cut. asked_by cut.positional cut.options
 
 -- the file that a command reads, and no name where it reads none
 abbrev pub file_of : Settings → List ℕ
-file_of (Typology file workers places schedule) = file
-file_of (Torder file workers places) = file
-file_of (Rank file faith) = file
-file_of (Bases file) = file
-file_of (Hasse file) = file
+file_of (Typology file workers places schedule given) = file
+file_of (Torder file workers places given) = file
+file_of (Rank file faith given) = file
+file_of (Bases file given) = file
+file_of (Hasse file given) = file
 file_of (Demo number workers places) = []
+
+-- the file of given pairs that a command reads, where it reads one
+abbrev pub given_of : Settings → Option (List ℕ)
+given_of (Typology file workers places schedule given) = given
+given_of (Torder file workers places given) = given
+given_of (Rank file faith given) = given
+given_of (Bases file given) = given
+given_of (Hasse file given) = given
+given_of (Demo number workers places) = None
 
 -- the number of the demonstration file that a command makes, where it reads no file
 abbrev pub made_of : Settings → Option ℕ
-made_of (Typology file workers places schedule) = None
-made_of (Torder file workers places) = None
-made_of (Rank file faith) = None
-made_of (Bases file) = None
-made_of (Hasse file) = None
+made_of (Typology file workers places schedule given) = None
+made_of (Torder file workers places given) = None
+made_of (Rank file faith given) = None
+made_of (Bases file given) = None
+made_of (Hasse file given) = None
 made_of (Demo number workers places) = Some number
 
 -- the numbers of the settings are within their limits
 abbrev pub IsWithinLimits : Settings → Type 0
-IsWithinLimits (Typology file workers places schedule) = (1 ≤ workers) × (workers ≤ 64) × (places ≤ 4096)
-IsWithinLimits (Torder file workers places) = (1 ≤ workers) × (workers ≤ 64) × (places ≤ 4096)
-IsWithinLimits (Rank file faith) = ⊤
-IsWithinLimits (Bases file) = ⊤
-IsWithinLimits (Hasse file) = ⊤
+IsWithinLimits (Typology file workers places schedule given) = (1 ≤ workers) × (workers ≤ 64) × (places ≤ 4096)
+IsWithinLimits (Torder file workers places given) = (1 ≤ workers) × (workers ≤ 64) × (places ≤ 4096)
+IsWithinLimits (Rank file faith given) = ⊤
+IsWithinLimits (Bases file given) = ⊤
+IsWithinLimits (Hasse file given) = ⊤
 IsWithinLimits (Demo number workers places) = (1 ≤ workers) × (workers ≤ 64) × (places ≤ 4096)
 
 -- what the words ask for, if they give settings

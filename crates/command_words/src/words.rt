@@ -17,11 +17,11 @@ use std::alloc::Global;
 /// with a dash. The first word `--` makes all later words positional. `demo` takes a number from 0 to 2^64 - 1, and each other
 /// command a file. `typology`, `torder` and `demo` take the options `--workers` (1 to 64, or else 1) and `--store` (0 to 4,096, or
 /// else 1,024), `typology` takes `--schedule` (0 to 2^64 - 1), and `rank` takes `--faith`, a list of constraints: numbers from 1 to
-/// 128, each of 1 to 3 digits, with one comma between two. `bases` and `hasse` take no option.
+/// 128, each of 1 to 3 digits, with one comma between two. All but `demo` take `--given`, a file of given pairs.
 ///
 /// Bad comes where there is another number of positional words, an unknown command, an option that the command does not take
-/// or that is given twice, a value that is missing, is no such list, or is not 1 to 20 digits in the range, and where a word before
-/// that `--` begins with one dash and is longer than it.
+/// or that is given twice, a value that is missing, is no such list, is an empty name of a file, or is not 1 to 20 digits in the
+/// range, and where a word before that `--` begins with one dash and is longer than it.
 #[tactic(auto, using(crate::proofs::Commands::no_command), unfolding(crate::specs::Words::settings_of))]
 pub fn settings_of(alloc: Global, words: &[String]) -> Result<Settings, WordsError>
     ensures given { IfOk result (λ settings. words_of.settings_of (map string_bytes words.now) ≡ Some settings) }
@@ -72,13 +72,14 @@ fn typology_of(alloc: Global, file: &str, options: &[GivenOption]) -> Result<Set
     ensures bad { result ≡ Err WordsError.Bad → words_of.typology_of file.now (map lines.given options.now) ≡ None }
     ensures within { IfOk result (λ settings. words_of.IsWithinLimits settings) }
 {
-    if !are_among(options, &["workers", "store", "schedule"]) {
+    if !are_among(options, &["workers", "store", "schedule", "given"]) {
         return Err(WordsError::Bad);
     }
     Ok(Settings::Typology {
         workers: workers_in(options)?,
         places: places_in(options)?,
         schedule: schedule_in(options)?,
+        given: given_in(alloc, options)?,
         file: FileName::of(alloc, file)?,
     })
 }
@@ -88,12 +89,13 @@ fn torder_of(alloc: Global, file: &str, options: &[GivenOption]) -> Result<Setti
     ensures bad { result ≡ Err WordsError.Bad → words_of.torder_of file.now (map lines.given options.now) ≡ None }
     ensures within { IfOk result (λ settings. words_of.IsWithinLimits settings) }
 {
-    if !are_among(options, &["workers", "store"]) {
+    if !are_among(options, &["workers", "store", "given"]) {
         return Err(WordsError::Bad);
     }
     Ok(Settings::Torder {
         workers: workers_in(options)?,
         places: places_in(options)?,
+        given: given_in(alloc, options)?,
         file: FileName::of(alloc, file)?,
     })
 }
@@ -103,11 +105,12 @@ fn rank_of(alloc: Global, file: &str, options: &[GivenOption]) -> Result<Setting
     ensures bad { result ≡ Err WordsError.Bad → words_of.rank_of file.now (map lines.given options.now) ≡ None }
     ensures within { IfOk result (λ settings. words_of.IsWithinLimits settings) }
 {
-    if !are_among(options, &["faith"]) {
+    if !are_among(options, &["faith", "given"]) {
         return Err(WordsError::Bad);
     }
     Ok(Settings::Rank {
         faith: faith_in(alloc, options)?,
+        given: given_in(alloc, options)?,
         file: FileName::of(alloc, file)?,
     })
 }
@@ -117,10 +120,11 @@ fn bases_of(alloc: Global, file: &str, options: &[GivenOption]) -> Result<Settin
     ensures bad { result ≡ Err WordsError.Bad → words_of.bases_of file.now (map lines.given options.now) ≡ None }
     ensures within { IfOk result (λ settings. words_of.IsWithinLimits settings) }
 {
-    if !are_among(options, &[]) {
+    if !are_among(options, &["given"]) {
         return Err(WordsError::Bad);
     }
     Ok(Settings::Bases {
+        given: given_in(alloc, options)?,
         file: FileName::of(alloc, file)?,
     })
 }
@@ -130,10 +134,11 @@ fn hasse_of(alloc: Global, file: &str, options: &[GivenOption]) -> Result<Settin
     ensures bad { result ≡ Err WordsError.Bad → words_of.hasse_of file.now (map lines.given options.now) ≡ None }
     ensures within { IfOk result (λ settings. words_of.IsWithinLimits settings) }
 {
-    if !are_among(options, &[]) {
+    if !are_among(options, &["given"]) {
         return Err(WordsError::Bad);
     }
     Ok(Settings::Hasse {
+        given: given_in(alloc, options)?,
         file: FileName::of(alloc, file)?,
     })
 }
@@ -194,6 +199,20 @@ fn faith_in(alloc: Global, options: &[GivenOption]) -> Result<Option<List<ConId>
         return Ok(None);
     };
     Ok(Some(constraints_of(alloc, text)?))
+}
+
+/// The file of given pairs, if the option was given. Its name is not empty.
+fn given_in(alloc: Global, options: &[GivenOption]) -> Result<Option<FileName>, WordsError>
+    ensures given { IfOk result (λ given. words_of.given_in (map lines.given options.now) ≡ Some given) }
+    ensures bad { result ≡ Err WordsError.Bad → words_of.given_in (map lines.given options.now) ≡ None }
+{
+    let Some(text) = value_of(options, "given")? else {
+        return Ok(None);
+    };
+    if text.is_empty() {
+        return Err(WordsError::Bad);
+    }
+    Ok(Some(FileName::of(alloc, text)?))
 }
 
 /// The number within these bounds that an option was given, if it was.
