@@ -1,16 +1,18 @@
-//! What a run finds outside: one file, and two sinks.
+//! What a run finds outside: one or two files, and two sinks.
 
 use erc_vectors::{List, NoMemory};
 use ot_base::{Label, MemFiles, MemSink};
 use std::alloc::Global;
 
-/// One file in memory, the greatest pieces of a read and of a write, and the numbers of the calls that fail.
+/// One or two files in memory, the greatest pieces of a read and of a write, and the numbers of the calls that fail.
 #[derive(Clone, Copy, Debug)]
 pub struct Outside<'a> {
     /// The name of the file.
     pub name: &'a str,
     /// Its bytes.
     pub bytes: &'a [u8],
+    /// The name and the bytes of a second file.
+    pub other: Option<(&'a str, &'a [u8])>,
     /// The most bytes of a read.
     pub read_piece: usize,
     /// Which calls of the files fail, counted from 1: opens and reads.
@@ -33,6 +35,7 @@ impl<'a> Outside<'a> {
         Outside {
             name,
             bytes,
+            other: None,
             read_piece: usize::MAX,
             read_fails: &[],
             room: 1 << 16,
@@ -43,12 +46,15 @@ impl<'a> Outside<'a> {
         }
     }
 
-    /// The file.
+    /// The files.
     pub(crate) fn files(&self, alloc: Global) -> Result<MemFiles, NoMemory> {
         let mut files = List::new(alloc);
         let name = Label::of(alloc, self.name.as_bytes())?;
         let bytes = Label::of(alloc, self.bytes)?;
         files.push((name, bytes))?;
+        if let Some((name, bytes)) = self.other {
+            files.push((Label::of(alloc, name.as_bytes())?, Label::of(alloc, bytes)?))?;
+        }
         let fails = List::of(alloc, self.read_fails)?;
         Ok(MemFiles::new(alloc, files, self.read_piece.max(1), fails))
     }

@@ -7,6 +7,8 @@ mod demo;
 #[cfg(test)]
 mod faults;
 #[cfg(test)]
+mod given_pairs;
+#[cfg(test)]
 mod reports;
 #[cfg(test)]
 mod settings;

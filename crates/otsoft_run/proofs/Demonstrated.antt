@@ -9,6 +9,8 @@ use Rattle.refutation.specs.declared.contradiction.Contradiction.{Contradiction}
 use Rattle.refutation.specs.declared.typology.Cut.{Cut}
 use Rattle.refutation.specs.declared.typology.Language.{Language}
 use Rattle.refutation.specs.declared.typology.Typology.{Typology}
+use Rattle.tableau_file.specs.Reading.{reading}
+use Rattle.tableau_file.specs.declared.FileRefusal.{FileRefusal}
 use Rattle.tableau_file.specs.declared.limits.TheConstants.{FILE_LIMIT}
 use Rattle.demonstration_file.specs.declared.TheConstants.{FILE_BYTES}
 use Rattle.demonstration_file.specs.Demonstration.{demonstration_file}
@@ -17,15 +19,17 @@ use Rattle.demonstration_file.proofs.Accepted.{accepted}
 use Rattle.report_text.specs.Reports.{typology_report}
 use Rattle.report_text.specs.Summary.{demo_report}
 use Rattle.otsoft_run.specs.declared.judging.Posed.{Posed}
-use Rattle.otsoft_run.specs.Answers.{Refusal, IsDemoReport, judged, named_cuts}
+use Rattle.otsoft_run.specs.Answers.{IsDemoReport, named_cuts}
 
 -- all of it is read
 pub whole_file : (number : ℕ) → demonstration_file number ≡ take (FILE_LIMIT + 1) (demonstration_file number)
 whole_file number = sym (take_all (FILE_LIMIT + 1) (demonstration_file number) (omega (arith, length-file number)))
 
-pub never_refused : (number : ℕ) (file : List ℕ) (refusal : Refusal) → judged file (demonstration_file number) ≡ Err refusal → ⊥
-unfolding judged
-never_refused number file refusal is = let read = rw (accepted number) at is in cc
+pub never_refused : (number : ℕ) (read : List ℕ) (fault : FileRefusal) → read ≡ demonstration_file number
+    → ((bytes : List ℕ) → read ≡ take (FILE_LIMIT + 1) bytes → reading bytes ≡ Err fault) → ⊥
+never_refused number read fault is wrong =
+    let refused : reading (demonstration_file number) ≡ Err fault = wrong (demonstration_file number) (is ∙ whole_file number) in
+    let both = sym (accepted number) ∙ refused in cc
 
 -- the counts of the typology that was found are those of the problem
 pub told : (number : ℕ) (posed : Posed) (typology : Typology) (whole report : List ℕ)

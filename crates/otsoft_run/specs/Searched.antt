@@ -22,12 +22,12 @@ in_threads workers places = if nat_lt 1 workers then Some (workers, places) else
 
 -- how many workers and how many places a search in threads has, where one answers the command
 abbrev pub search_of : Settings → Option (ℕ × ℕ)
-search_of (asks.Typology file workers places None) = in_threads workers places
-search_of (asks.Typology file workers places (Some number)) = None
-search_of (asks.Torder file workers places) = in_threads workers places
-search_of (asks.Rank file faith) = None
-search_of (asks.Bases file) = None
-search_of (asks.Hasse file) = None
+search_of (asks.Typology file workers places None given) = in_threads workers places
+search_of (asks.Typology file workers places (Some number) given) = None
+search_of (asks.Torder file workers places given) = in_threads workers places
+search_of (asks.Rank file faith given) = None
+search_of (asks.Bases file given) = None
+search_of (asks.Hasse file given) = None
 search_of (asks.Demo number workers places) = in_threads workers places
 
 -- the report of a typology that was found
@@ -45,11 +45,11 @@ listing_of posed languages = torder_report posed.tableau posed.problem (implicat
 
 -- The report of a command is made from a typology.
 abbrev pub IsMadeFrom : Settings → Posed → Typology → List ℕ → Type 0
-IsMadeFrom (asks.Typology file workers places schedule) posed typology report = report ≡ report_of posed typology
-IsMadeFrom (asks.Torder file workers places) posed typology report = report ≡ listing_of posed typology.languages
-IsMadeFrom (asks.Rank file faith) posed typology report = ⊤
-IsMadeFrom (asks.Bases file) posed typology report = ⊤
-IsMadeFrom (asks.Hasse file) posed typology report = ⊤
+IsMadeFrom (asks.Typology file workers places schedule given) posed typology report = report ≡ report_of posed typology
+IsMadeFrom (asks.Torder file workers places given) posed typology report = report ≡ listing_of posed typology.languages
+IsMadeFrom (asks.Rank file faith given) posed typology report = ⊤
+IsMadeFrom (asks.Bases file given) posed typology report = ⊤
+IsMadeFrom (asks.Hasse file given) posed typology report = ⊤
 IsMadeFrom (asks.Demo number workers places) posed typology report = report ≡ summary_of number posed typology
 
 -- A found search of the problem with so many workers and places, of whose typology something is made.

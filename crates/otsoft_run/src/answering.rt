@@ -4,27 +4,29 @@ ghost use Rattle.std.specs.Prelude.{◌≡◌, ◌≤◌, ◌⊎◌, IsTrue};
 ghost use Rattle.std.specs.Io.KnownBytes.{Keeps, Appends};
 ghost use Rattle.ot_base.specs.Causes.{next_number};
 ghost use Rattle.ot_base.specs.Outside.{SinkRose};
-ghost use Rattle.otsoft_run.specs.Answers.{AppendsPart, Says, is_written, unwritten_line, memory_line, refusal_line, refusal_of};
+ghost use Rattle.otsoft_run.specs.Answers.{AppendsPart, Says, is_written, unwritten_line, memory_line, refusal_line};
+ghost use Rattle.otsoft_run.specs.Sources.{told_of};
 
 use crate::lines::refusal_text;
+use crate::sources::SourceRefusal;
 use crate::status::Status;
 use crate::writing::{out_of_memory, say, write_all};
+use command_words::Settings;
 use ot_base::{Failed, Sink};
 use std::alloc::Global;
-use tableau_file::FileRefusal;
 
 /// Tells a refusal.
 pub(crate) fn refuse<E: Sink>(
     alloc: Global,
     err: &mut E,
-    file: &str,
-    refusal: FileRefusal,
+    settings: &Settings,
+    refusal: SourceRefusal,
 ) -> Status
     ensures status { (result ≡ Status.Refused) ⊎ (result ≡ Status.NoMemory) }
-    ensures refused { result ≡ Status.Refused → Says (E.told err.old) (E.told err.new) (refusal_line (refusal_of file.now refusal)) }
+    ensures refused { result ≡ Status.Refused → Says (E.told err.old) (E.told err.new) (refusal_line (told_of settings.now refusal)) }
     ensures no_memory { result ≡ Status.NoMemory → Says (E.told err.old) (E.told err.new) memory_line }
 {
-    let Ok(text) = refusal_text(alloc, file, refusal) else {
+    let Ok(text) = refusal_text(alloc, settings, refusal) else {
         return out_of_memory(err);
     };
     say(err, text.as_slice());

@@ -1,7 +1,7 @@
 //! The report of the two bases of what the winners ask for.
 
 ghost use Rattle.std.specs.Prelude.{◌≡◌, IfOk, IsTrue, codes, filter};
-ghost use Rattle.ot_base.specs.Tableaus.{problem_of};
+ghost use Rattle.report_text.specs.Posed.{Poses};
 ghost use Rattle.ot_theory.specs.Refutations.{is_contradicted};
 ghost use Rattle.ot_theory.specs.Conditions.{has_both};
 ghost use Rattle.otsoft_run.specs.Answers.{IsWinnersReport, IsBasesReport, is_written, status_by};
@@ -20,7 +20,7 @@ use std::alloc::Global;
 /// The report of the informative and the skeletal basis of those conditions of the winners that have both W and L, or of why no
 /// ranking keeps the conditions of the winners.
 pub(crate) fn bases_report(alloc: Global, posed: &Posed) -> Result<Report, NoMemory>
-    requires { posed.now.problem ≡ problem_of posed.now.tableau }
+    requires { Poses posed.now.tableau posed.now.problem }
     ensures report { IfOk result (λ report. IsWinnersReport (codes "bases") (IsBasesReport posed.now) posed.now report.text) }
     ensures status { IfOk result (λ report. report.status ≡ status_by (is_contradicted posed.now.problem)) }
     ensures written { IfOk result (λ report. IsTrue (is_written report.status)) }

@@ -1,7 +1,7 @@
 //! The report of a command where no ranking keeps the conditions of the winners.
 
 ghost use Rattle.std.specs.Prelude.{◌≡◌, true, IfOk, IsTrue};
-ghost use Rattle.ot_base.specs.Tableaus.{problem_of};
+ghost use Rattle.report_text.specs.Posed.{Poses};
 ghost use Rattle.ot_theory.specs.Refutations.{certificate_of, is_contradicted, is_contradiction, one_winner_each, terms_of_winners};
 ghost use Rattle.refutation.specs.Terms.{are_terms, terms_in};
 ghost use Rattle.otsoft_run.specs.Answers.{IsContradictionReport};
@@ -21,7 +21,7 @@ pub(crate) fn contradiction_report(
     command: &str,
     terms: &[Term],
 ) -> Result<Report, NoMemory>
-    requires poses { posed.now.problem ≡ problem_of posed.now.tableau }
+    requires poses { Poses posed.now.tableau posed.now.problem }
     requires winners { terms_in terms.now ≡ terms_of_winners posed.now.problem }
     requires genuine { IsTrue (are_terms posed.now.problem terms.now) }
     requires one { IsTrue (one_winner_each (terms_in terms.now)) }
@@ -40,7 +40,7 @@ pub(crate) fn certificate_report(
     command: &str,
     core: &Contradiction,
 ) -> Result<Report, NoMemory>
-    requires poses { posed.now.problem ≡ problem_of posed.now.tableau }
+    requires poses { Poses posed.now.tableau posed.now.problem }
     requires certificate { terms_in core.now.terms ≡ certificate_of posed.now.problem (terms_of_winners posed.now.problem) }
     requires genuine { IsTrue (is_contradiction posed.now.problem (terms_in core.now.terms)) }
     ensures report { IfOk result (λ report. IsContradictionReport command.now posed.now report.text) }

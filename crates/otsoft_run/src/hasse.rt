@@ -2,7 +2,7 @@
 
 ghost use Rattle.std.specs.Prelude.{◌≡◌, IfOk, IsTrue, codes};
 ghost use Rattle.ot_base.specs.Acceptable.{IsAcceptable};
-ghost use Rattle.ot_base.specs.Tableaus.{problem_of};
+ghost use Rattle.report_text.specs.Posed.{Poses};
 ghost use Rattle.ot_theory.specs.Refutations.{is_contradicted};
 ghost use Rattle.otsoft_run.specs.Answers.{IsWinnersReport, IsHasseReport, is_written, status_by};
 
@@ -19,7 +19,7 @@ use std::alloc::Global;
 
 /// The report of the covers of the winners' conditions, or of why no ranking keeps these.
 pub(crate) fn hasse_report(alloc: Global, posed: &Posed) -> Result<Report, NoMemory>
-    requires poses { posed.now.problem ≡ problem_of posed.now.tableau }
+    requires poses { Poses posed.now.tableau posed.now.problem }
     requires acceptable { IsAcceptable posed.now.tableau }
     ensures report { IfOk result (λ report. IsWinnersReport (codes "hasse") (IsHasseReport posed.now) posed.now report.text) }
     ensures status { IfOk result (λ report. report.status ≡ status_by (is_contradicted posed.now.problem)) }

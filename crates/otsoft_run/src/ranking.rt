@@ -2,7 +2,7 @@
 
 ghost use Rattle.std.specs.Prelude.{◌≡◌, IfOk, IsTrue, Some, None};
 ghost use Rattle.ot_base.specs.Acceptable.{IsAcceptable};
-ghost use Rattle.ot_base.specs.Tableaus.{problem_of};
+ghost use Rattle.report_text.specs.Posed.{Poses};
 ghost use Rattle.ot_theory.specs.Refutations.{is_contradicted};
 ghost use Rattle.otsoft_run.specs.Answers.{IsRankReport, is_written, status_by};
 
@@ -18,7 +18,7 @@ use std::alloc::Global;
 
 /// The report of the least hierarchy of the winners, or of why there is none.
 pub(crate) fn rank_report(alloc: Global, posed: &Posed) -> Result<Report, NoMemory>
-    requires poses { posed.now.problem ≡ problem_of posed.now.tableau }
+    requires poses { Poses posed.now.tableau posed.now.problem }
     requires acceptable { IsAcceptable posed.now.tableau }
     ensures report { IfOk result (λ report. IsRankReport None posed.now report.text) }
     ensures status { IfOk result (λ report. report.status ≡ status_by (is_contradicted posed.now.problem)) }
@@ -43,7 +43,7 @@ pub(crate) fn biased_report(
     posed: &Posed,
     faith: &[ConId],
 ) -> Result<Report, NoMemory>
-    requires poses { posed.now.problem ≡ problem_of posed.now.tableau }
+    requires poses { Poses posed.now.tableau posed.now.problem }
     requires acceptable { IsAcceptable posed.now.tableau }
     ensures report { IfOk result (λ report. IsRankReport (Some faith.now) posed.now report.text) }
     ensures status { IfOk result (λ report. report.status ≡ status_by (is_contradicted posed.now.problem)) }

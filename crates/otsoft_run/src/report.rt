@@ -2,7 +2,7 @@
 
 ghost use Rattle.std.specs.Prelude.{◌≡◌, IfOk, IsTrue, Ok, None};
 ghost use Rattle.ot_base.specs.Acceptable.{IsAcceptable};
-ghost use Rattle.ot_base.specs.Tableaus.{problem_of};
+ghost use Rattle.report_text.specs.Posed.{Poses};
 ghost use Rattle.command_words.specs.Words.{IsWithinLimits};
 ghost use Rattle.otsoft_run.specs.Answers.{IsReport, is_written, written_status};
 ghost use Rattle.otsoft_run.specs.Searched.{IsSearch};
@@ -42,7 +42,7 @@ pub(crate) fn answer_of<R: Threads + Sync, G: Gate>(
     posed: &Posed,
     gate: &G,
 ) -> Result<Answer, NoMemory>
-    requires poses { posed.now.problem ≡ problem_of posed.now.tableau }
+    requires poses { Poses posed.now.tableau posed.now.problem }
     requires acceptable { IsAcceptable posed.now.tableau }
     requires within { IsWithinLimits settings.now }
     ensures report { IfOk result (λ answer. IsReport settings.now posed.now answer.report.text) }

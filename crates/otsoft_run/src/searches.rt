@@ -1,7 +1,7 @@
 //! What is answered from the languages of a problem.
 
 ghost use Rattle.std.specs.Prelude.{◌≡◌, ◌≤◌, IfOk, None, MatchOption, length, map};
-ghost use Rattle.ot_base.specs.Tableaus.{problem_of};
+ghost use Rattle.report_text.specs.Posed.{Poses};
 ghost use Rattle.ot_theory.specs.Languages.{IsTypology};
 ghost use Rattle.refutation.specs.Typologies.{found_of};
 ghost use Rattle.ot_base.specs.declared.limits.TheConstants.{PLACE_LIMIT};
@@ -39,7 +39,7 @@ pub(crate) fn typology_answer<R: Threads + Sync, G: Gate>(
     requires some_workers { 1 ≤ workers }
     requires few_workers { workers ≤ WORKER_LIMIT }
     requires few { places ≤ PLACE_LIMIT }
-    requires poses { posed.now.problem ≡ problem_of posed.now.tableau }
+    requires poses { Poses posed.now.tableau posed.now.problem }
     ensures report { IfOk result (λ answer. IsTypologyReport posed.now answer.report.text) }
     ensures status { IfOk result (λ answer. answer.report.status ≡ Status.Done) }
     ensures search { IfOk result (λ answer. MatchOption schedule
@@ -80,7 +80,7 @@ pub(crate) fn torder_answer<R: Threads + Sync, G: Gate>(
     requires some_workers { 1 ≤ workers }
     requires few_workers { workers ≤ WORKER_LIMIT }
     requires few { places ≤ PLACE_LIMIT }
-    requires poses { posed.now.problem ≡ problem_of posed.now.tableau }
+    requires poses { Poses posed.now.tableau posed.now.problem }
     ensures report { IfOk result (λ answer. IsTorderReport posed.now answer.report.text) }
     ensures status { IfOk result (λ answer. answer.report.status ≡ Status.Done) }
     ensures search { IfOk result (λ answer. IsSearchBy posed.now.problem workers places (λ typology. answer.report.text ≡ listing_of posed.now typology.languages) answer.found) }
@@ -112,7 +112,7 @@ pub(crate) fn demo_answer<R: Threads + Sync, G: Gate>(
     requires some_workers { 1 ≤ workers }
     requires few_workers { workers ≤ WORKER_LIMIT }
     requires few { places ≤ PLACE_LIMIT }
-    requires poses { posed.now.problem ≡ problem_of posed.now.tableau }
+    requires poses { Poses posed.now.tableau posed.now.problem }
     ensures report { IfOk result (λ answer. IsDemoReport number posed.now answer.report.text) }
     ensures status { IfOk result (λ answer. answer.report.status ≡ Status.Done) }
     ensures search { IfOk result (λ answer. IsSearchBy posed.now.problem workers places (λ typology. answer.report.text ≡ summary_of number posed.now typology) answer.found) }
@@ -144,7 +144,7 @@ fn done(text: Label) -> Report
 
 /// The report of the typology of a problem.
 fn typology_report(alloc: Global, posed: &Posed, typology: &Typology) -> Result<Label, NoMemory>
-    requires poses { posed.now.problem ≡ problem_of posed.now.tableau }
+    requires poses { Poses posed.now.tableau posed.now.problem }
     requires found { IsTypologyOf posed.now.problem typology.now }
     ensures made { IfOk result (λ report. report ≡ report_of posed.now typology.now) }
     ensures right { IfOk result (IsTypologyReport posed.now) }
@@ -154,7 +154,7 @@ fn typology_report(alloc: Global, posed: &Posed, typology: &Typology) -> Result<
 
 /// The report of the typology of a problem, which one worker finds.
 fn lone_report(alloc: Global, posed: &Posed) -> Result<Label, NoMemory>
-    requires { posed.now.problem ≡ problem_of posed.now.tableau }
+    requires { Poses posed.now.tableau posed.now.problem }
     ensures { IfOk result (IsTypologyReport posed.now) }
 {
     let typology = typology_of(alloc, &posed.problem)?;
@@ -163,7 +163,7 @@ fn lone_report(alloc: Global, posed: &Posed) -> Result<Label, NoMemory>
 
 /// The report of the implications between the outputs of a problem, read off its languages.
 fn torder_report(alloc: Global, posed: &Posed, languages: &[Language]) -> Result<Label, NoMemory>
-    requires poses { posed.now.problem ≡ problem_of posed.now.tableau }
+    requires poses { Poses posed.now.tableau posed.now.problem }
     requires found { IsTypology posed.now.problem (found_of languages.now) }
     ensures made { IfOk result (λ report. report ≡ listing_of posed.now languages.now) }
     ensures right { IfOk result (IsTorderReport posed.now) }
@@ -179,7 +179,7 @@ fn demo_report(
     number: u64,
     typology: &Typology,
 ) -> Result<Label, NoMemory>
-    requires poses { posed.now.problem ≡ problem_of posed.now.tableau }
+    requires poses { Poses posed.now.tableau posed.now.problem }
     requires found { IsTypologyOf posed.now.problem typology.now }
     ensures made { IfOk result (λ report. report ≡ summary_of number posed.now typology.now) }
     ensures right { IfOk result (IsDemoReport number posed.now) }
