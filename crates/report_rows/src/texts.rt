@@ -1,11 +1,16 @@
+//! The texts of reports, whole.
+
 ghost use Rattle.std.specs.Prelude.{◌≡◌, ◌<◌, length, IfOk, All};
 ghost use Rattle.ot_base.specs.Acceptable.{AreRows, IsAcceptable};
+ghost use Rattle.report_text.specs.Posed.{Poses};
 
-use crate::{bases_text, contradiction_text, hasse_text, rank_text, torder_text, typology_text};
 use erc_vectors::{ConId, Condition, Cover, List, Mark, NoMemory, Strata};
 use fusional_reduction::Bases;
-use ot_base::{ClassId, InId, InputRows, Tableau, input_of, tableau_of};
+use ot_base::{ClassId, InId, InputRows, Pair, Tableau, input_of, tableau_of};
 use refutation::{Contradiction, Cut, Implication, Language, Prefix, Term, Typology, is_genuine};
+use report_text::{
+    bases_text, contradiction_text, hasse_text, rank_text, torder_text, typology_text,
+};
 use std::alloc::Global;
 use std::process::Abort;
 use std::test::Fail;
@@ -136,6 +141,7 @@ const CODAS_HEAD: &str =
 /// Two inputs that would be repaired alike, and whose winners are not.
 fn codas(alloc: Global) -> Result<Tableau, NoMemory>
     ensures acceptable { IfOk result IsAcceptable }
+    ensures names { IfOk result (λ tableau. length tableau.names ≡ 3) }
 {
     let names = ["NoCoda", "Max", "Dep"];
     let pat = [
@@ -161,7 +167,7 @@ fn terms_that_no_ranking_keeps(rt: HostRuntime) -> Result<(), Fail> {
     let problem = Problem::of(alloc, &tableau)?;
     let mut terms = List::new(alloc);
     for (i, a, b) in [(0, 0, 1), (1, 1, 0)] {
-        terms.push(Term {
+        terms.push(Term::Loser {
             input: InId(i),
             winner: ClassId(a),
             loser: ClassId(b),
@@ -173,6 +179,39 @@ fn terms_that_no_ranking_keeps(rt: HostRuntime) -> Result<(), Fail> {
     let report = contradiction_text(alloc, &tableau, &problem, "hasse", &found)?;
     let rest = "winner\t1\t1\nwinner\t2\t2\ncontradiction\tLLe\t1:1>2 2:2>1\nend\n";
     let expected = report_of(alloc, "hasse", CODAS_HEAD, rest)?;
+    assert!(rt; report.bytes() == expected.as_bytes());
+    Ok(())
+}
+
+/// The problem of a tableau, with two given pairs that no ranking keeps together.
+fn with_cycle(alloc: Global, tableau: &Tableau) -> Result<Problem, NoMemory>
+    requires acceptable { IsAcceptable tableau.now }
+    requires names { length tableau.now.names ≡ 3 }
+    ensures { IfOk result (Poses tableau.now) }
+{
+    let pairs = [(0, 1), (1, 0)].map(|(above, below)| Pair {
+        above: ConId(above),
+        below: ConId(below),
+    });
+    let problem = Problem::of(alloc, tableau)?;
+    Ok(problem.with_given(List::of(alloc, &pairs)?))
+}
+
+/// The given pairs stand behind the classes, and the contradiction names them.
+#[test]
+fn given_pairs_that_no_ranking_keeps(rt: HostRuntime) -> Result<(), Fail> {
+    let alloc = rt.alloc();
+    let tableau = codas(alloc)?;
+    let problem = with_cycle(alloc, &tableau)?;
+    let found = Contradiction {
+        terms: List::of(alloc, &[Term::Given(0), Term::Given(1)])?,
+    };
+    let genuine = is_genuine(&problem, &found);
+    assert!(rt; genuine);
+    let report = contradiction_text(alloc, &tableau, &problem, "rank", &found)?;
+    let rest =
+        "givens\t2\ngiven\t1\t1\t2\ngiven\t2\t2\t1\nwinner\t1\t1\nwinner\t2\t2\ncontradiction\tLLe\tg1 g2\nend\n";
+    let expected = report_of(alloc, "rank", CODAS_HEAD, rest)?;
     assert!(rt; report.bytes() == expected.as_bytes());
     Ok(())
 }
@@ -272,7 +311,7 @@ fn a_certificate_that_two_cuts_name(rt: HostRuntime) -> Result<(), Fail> {
     let tableau = tableau(alloc, &names, &names, pat, ku)?;
     let problem = Problem::of(alloc, &tableau)?;
     let mut terms = List::new(alloc);
-    terms.push(Term {
+    terms.push(Term::Loser {
         input: InId(1),
         winner: ClassId(1),
         loser: ClassId(0),

@@ -5,7 +5,7 @@ use Rattle.ot_theory.specs.Refutations.{is_contradiction}
 use Rattle.refutation.specs.declared.contradiction.Contradiction.{Contradiction}
 use Rattle.refutation.specs.Terms.{are_terms, terms_in}
 use Rattle.report_text.proofs.Genuine.{genuine-terms}
-use Rattle.report_text.proofs.tests.a_certificate_that_two_cuts_name.Goals as goal
+use Rattle.report_rows.proofs.texts.a_certificate_that_two_cuts_name.Goals as goal
 
 pub typology_text-requires-clause-terms : goal.typology_text-requires-clause-terms
 typology_text-requires-clause-terms g c =
