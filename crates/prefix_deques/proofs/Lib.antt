@@ -4,4 +4,3 @@ pub mod Closing
 pub mod Dealt
 pub mod Making
 pub mod Ending
-pub mod Staying

@@ -23,8 +23,6 @@ mod seat;
 mod seats;
 mod settling;
 mod shared;
-#[cfg(test)]
-mod tests;
 
 pub use booked::Books;
 pub use lane::Stolen;

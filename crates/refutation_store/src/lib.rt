@@ -14,8 +14,6 @@ mod front;
 pub mod laws;
 mod shared;
 mod store;
-#[cfg(test)]
-mod tests;
 
 pub use front::Front;
 pub use ot_base::PLACE_LIMIT;

@@ -13,7 +13,5 @@ mod lines;
 mod misread;
 mod pieces;
 mod reading;
-#[cfg(test)]
-mod tests;
 
 pub use reading::{REPORT_LIMIT, TextError, read_typology_text};

@@ -24,8 +24,6 @@ mod prefixes;
 mod rank;
 mod tableaux;
 mod terms;
-#[cfg(test)]
-mod tests;
 mod text;
 mod torder;
 mod typology;

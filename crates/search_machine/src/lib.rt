@@ -13,8 +13,6 @@ mod laws;
 mod machine;
 mod queue;
 mod step;
-#[cfg(test)]
-mod tests;
 
 pub use finding::{fate_for, judge, judge_with};
 pub use laws::{

@@ -5,4 +5,3 @@ pub mod ReadOff
 pub mod Tables
 pub mod Listed
 pub mod Told
-pub mod Choosing

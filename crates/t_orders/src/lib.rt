@@ -12,8 +12,6 @@ mod listing;
 mod row;
 mod seen;
 mod table;
-#[cfg(test)]
-mod tests;
 
 pub use laws::{
     implied_by_languages, one_language_for_each_ranking, possible_by_languages, told_by_languages,

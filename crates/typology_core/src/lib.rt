@@ -14,8 +14,6 @@ mod laws;
 mod learning;
 mod schedule;
 mod search;
-#[cfg(test)]
-mod tests;
 mod walk;
 
 pub use laws::{lone_search_has_one_run, lone_search_is_a_run};

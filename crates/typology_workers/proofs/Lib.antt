@@ -20,4 +20,3 @@ pub mod Going
 pub mod Remembering
 pub mod Sifting
 pub mod Turning
-pub mod Seated

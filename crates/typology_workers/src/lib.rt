@@ -36,8 +36,6 @@ mod path;
 mod rest;
 mod running;
 mod searching;
-#[cfg(test)]
-mod tests;
 mod worker;
 
 pub use found::Found;

@@ -1,8 +1,0 @@
-use Rattle.std.proofs.Common.{◌≡◌, ◌+◌, ◌++◌, length, map}
-use Rattle.prefix_deques.specs.declared.tests.Hand.{Hand}
-use Rattle.prefix_deques.proofs.tests.ended.Given as goal
-
-abbrev pub invariant-loop : goal.invariant-loop
-invariant-loop l =
-    (l.seats ++ map (λ (h : Hand). h.seat) l.hands.items ≡ map (λ (h : Hand). h.seat) l.initial.hands.items)
-    × (l.counter + length l.hands.items ≡ length l.initial.hands.items)

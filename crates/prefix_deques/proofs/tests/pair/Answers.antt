@@ -1,5 +1,0 @@
-use Rattle.prefix_deques.proofs.Staying.{pair_out}
-use Rattle.prefix_deques.proofs.tests.pair.Goals as goal
-
-pub returns : goal.returns
-returns c = pair_out c.in_ok-seats.seats c.pop.new.self c.pop-2.new.self c.in-Some-pop.first c.in-Some.second c.in_ok-seats.ensures.new c.in-Some.ensures c.in-Some-pop.ensures
