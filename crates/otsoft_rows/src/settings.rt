@@ -6,14 +6,14 @@ use memory_runs::words_of;
 use std::alloc::{AllocError, Global};
 use std::test::Fail;
 
-/// A name, words with a bar between two, and the settings as a text: the command, the file, and the workers, the places and the
-/// schedule or the constraints, counted from 0.
+/// A name, words with a bar between two, and the settings as a text: the command, the file, the workers, the places and the schedule
+/// or the constraints, counted from 0, and the file of given pairs.
 type Asked = (&'static str, &'static str, &'static str);
 
 /// A name, and words with a bar between two.
 type Bad = (&'static str, &'static str);
 
-const ASKED: [Asked; 40] = [
+const ASKED: [Asked; 45] = [
     ("no option", "typology|A", "typology A 1 1024"),
     ("a ranking", "rank|A", "rank A"),
     ("a file of no name", "typology|", "typology  1 1024"),
@@ -110,6 +110,31 @@ const ASKED: [Asked; 40] = [
     ),
     ("bases behind dashes", "--|bases|A", "bases A"),
     ("covers behind dashes", "hasse|--|A", "hasse A"),
+    (
+        "given pairs",
+        "bases|A|--given|g.txt",
+        "bases A given g.txt",
+    ),
+    (
+        "a dashed file of pairs",
+        "hasse|--given=-x|A",
+        "hasse A given -x",
+    ),
+    (
+        "the same file twice",
+        "torder|A|--given=A|--store=0",
+        "torder A 1 0 given A",
+    ),
+    (
+        "given pairs and constraints",
+        "rank|--given|g|--faith=3|A",
+        "rank A 2 given g",
+    ),
+    (
+        "given pairs and a schedule",
+        "--schedule|9|--given|g|typology|A",
+        "typology A 1 1024 9 given g",
+    ),
     ("the number 0", "demo|0", "demo 0 1 1024"),
     (
         "the last number of a file",
@@ -128,7 +153,11 @@ const ASKED: [Asked; 40] = [
     ),
 ];
 
-const BAD: [Bad; 69] = [
+const BAD: [Bad; 73] = [
+    ("given pairs of no name", "rank|A|--given="),
+    ("a dash for given pairs", "rank|A|--given|-x"),
+    ("given pairs twice", "rank|A|--given|g|--given|g"),
+    ("given pairs of a number", "demo|1|--given|g"),
     ("a command alone", "typology"),
     ("a ranking alone", "rank"),
     ("two files", "typology|A|B"),
@@ -211,12 +240,22 @@ const BAD: [Bad; 69] = [
 
 /// Settings as a text.
 fn shown(alloc: Global, settings: &Settings) -> Result<String, AllocError> {
+    let mut text = shown_command(alloc, settings)?;
+    if let Some(name) = settings.given() {
+        write!(text, " given {name}")?;
+    }
+    Ok(text)
+}
+
+/// Settings as a text, without the given pairs.
+fn shown_command(alloc: Global, settings: &Settings) -> Result<String, AllocError> {
     match settings {
         Settings::Typology {
             file,
             workers,
             places,
             schedule,
+            ..
         } => shown_search(
             alloc,
             "typology",
@@ -229,19 +268,25 @@ fn shown(alloc: Global, settings: &Settings) -> Result<String, AllocError> {
             file,
             workers,
             places,
+            ..
         } => shown_search(alloc, "torder", file.as_str(), *workers, *places, None),
-        Settings::Rank { file, faith: None } => shown_ranking(alloc, file.as_str(), &[]),
+        Settings::Rank {
+            file,
+            faith: None,
+            ..
+        } => shown_ranking(alloc, file.as_str(), &[]),
         Settings::Rank {
             file,
             faith: Some(faith),
+            ..
         } => shown_ranking(alloc, file.as_str(), faith.as_slice()),
         Settings::Demo {
             number,
             workers,
             places,
         } => format!(in alloc; "demo {number} {workers} {places}"),
-        Settings::Bases { file } => shown_file(alloc, "bases", file.as_str()),
-        Settings::Hasse { file } => shown_file(alloc, "hasse", file.as_str()),
+        Settings::Bases { file, .. } => shown_file(alloc, "bases", file.as_str()),
+        Settings::Hasse { file, .. } => shown_file(alloc, "hasse", file.as_str()),
     }
 }
 

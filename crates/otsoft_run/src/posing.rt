@@ -1,6 +1,6 @@
 //! What a command judges poses: its files, each of which is read to its end, or the demonstration file, which is made.
 
-ghost use Rattle.std.specs.Prelude.{◌≡◌, ◌≤◌, ◌+◌, ℕ, List, Result, drop, Ok, Err, Some, None, IfOk, IfErr};
+ghost use Rattle.std.specs.Prelude.{◌≡◌, ◌+◌, ℕ, List, Result, drop, Ok, Err, Some, None, IfOk, IfErr};
 ghost use Rattle.tableau_file.specs.Given.{given_reading};
 ghost use Rattle.tableau_file.specs.Reading.{reading};
 ghost use Rattle.tableau_file.specs.declared.FileRefusal.{FileRefusal};
@@ -18,7 +18,7 @@ ghost use Rattle.otsoft_run.specs.declared.sources.SourceRefusal.{SourceRefusal}
 ghost use Rattle.otsoft_run.specs.Answers.{IsAccepted, IsReadOut, IsUntouched, Judges, Reads, ReadsNothing, Refusal, given_refusal_of, posed_alone, posed_under};
 ghost use Rattle.otsoft_run.specs.Poses.{IsReadThrough, IsSourceRead, HasFault};
 ghost use Rattle.otsoft_run.specs.Sources.{name_of, told_of};
-ghost use Rattle.command_words.specs.Words.{file_of, made_of};
+ghost use Rattle.command_words.specs.Words.{made_of};
 
 use crate::judging::{Posed, judge, judge_given};
 use crate::reading::{ReadEnd, read_whole};

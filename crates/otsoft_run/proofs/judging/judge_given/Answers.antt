@@ -1,9 +1,6 @@
-use Rattle.std.proofs.Common.{ap, sym, ◌∙◌, ◌≡◌, Ok}
+use Rattle.std.proofs.Common.{ap}
 use Rattle.std.proofs.lemmas.Result.{err_from_is_err_and}
-use Rattle.ot_theory.specs.Problems.{Problem, with_given}
-use Rattle.ot_base.specs.Tableaus.{pairs_in, problem_of}
 use Rattle.otsoft_run.specs.Answers.{posed_under}
-use Rattle.otsoft_run.specs.declared.judging.Posed.{Posed}
 use Rattle.otsoft_run.proofs.Judged.{given_as, under_pairs}
 use Rattle.otsoft_run.proofs.judging.judge_given.Goals as goal
 

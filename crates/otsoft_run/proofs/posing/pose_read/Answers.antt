@@ -1,5 +1,5 @@
 -- The tableau is refused, or poses a problem alone, or under the pairs of the given file, or that file is refused.
-use Rattle.std.proofs.Common.{ap, sym, inl, inr, refl, ◌∙◌, ◌≡◌, Ok, Err}
+use Rattle.std.proofs.Common.{ap, sym, ◌∙◌, ◌≡◌, Ok, Err}
 use Rattle.otsoft_run.specs.Answers.{Refusal, given_refusal_of, refusal_of}
 use Rattle.otsoft_run.specs.Sources.{told_of}
 use Rattle.otsoft_run.specs.declared.sources.SourceRefusal.{SourceRefusal}
