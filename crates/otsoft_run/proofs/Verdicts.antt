@@ -1,7 +1,6 @@
 -- What a command judges, by the files that it reads or the one that it makes.
 use Rattle.std.proofs.Common.{◌≡◌, ℕ, ◌+◌, List, drop, Option, Some, None, Result, Ok, Err, inl, inr, refl, sym, ap, subst, ◌∙◌, arith}
 use Rattle.std.specs.Prelude.{◌⊎◌, [], IfOk, option_and_then, option_map, unwrap_or}
-use Rattle.ot_base.specs.Causes.{Rose}
 use Rattle.ot_base.specs.Outside.{FilesRose, FilesTold, KeepsFiles}
 use Rattle.ot_base.specs.declared.tableau.Tableau.{Tableau}
 use Rattle.tableau_file.specs.Given.{given_reading}
