@@ -1,6 +1,6 @@
 -- The tableau is refused, or poses a problem alone, or under the pairs of the given file, or that file is refused.
 use Rattle.std.proofs.Common.{ap, sym, ◌∙◌, ◌≡◌, Ok, Err}
-use Rattle.otsoft_run.specs.Answers.{Refusal, given_refusal_of, refusal_of}
+use Rattle.otsoft_run.specs.Answers.{Refusal, given_refusal_of}
 use Rattle.otsoft_run.specs.Sources.{told_of}
 use Rattle.otsoft_run.specs.declared.sources.SourceRefusal.{SourceRefusal}
 use Rattle.otsoft_run.specs.declared.sources.SourceRefusal.TheVariants as refused
