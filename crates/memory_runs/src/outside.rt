@@ -11,8 +11,10 @@ pub struct Outside<'a> {
     pub name: &'a str,
     /// Its bytes.
     pub bytes: &'a [u8],
-    /// The name and the bytes of a second file.
-    pub other: Option<(&'a str, &'a [u8])>,
+    /// The name of a second file. Where it is empty, there is none.
+    pub other_name: &'a str,
+    /// The bytes of the second file.
+    pub other_bytes: &'a [u8],
     /// The most bytes of a read.
     pub read_piece: usize,
     /// Which calls of the files fail, counted from 1: opens and reads.
@@ -35,7 +37,8 @@ impl<'a> Outside<'a> {
         Outside {
             name,
             bytes,
-            other: None,
+            other_name: "",
+            other_bytes: b"",
             read_piece: usize::MAX,
             read_fails: &[],
             room: 1 << 16,
@@ -52,8 +55,10 @@ impl<'a> Outside<'a> {
         let name = Label::of(alloc, self.name.as_bytes())?;
         let bytes = Label::of(alloc, self.bytes)?;
         files.push((name, bytes))?;
-        if let Some((name, bytes)) = self.other {
-            files.push((Label::of(alloc, name.as_bytes())?, Label::of(alloc, bytes)?))?;
+        if !self.other_name.is_empty() {
+            let name = Label::of(alloc, self.other_name.as_bytes())?;
+            let bytes = Label::of(alloc, self.other_bytes)?;
+            files.push((name, bytes))?;
         }
         let fails = List::of(alloc, self.read_fails)?;
         Ok(MemFiles::new(alloc, files, self.read_piece.max(1), fails))

@@ -216,7 +216,8 @@ const CASES: [Case; 9] = [
 /// Two files: the tableau and the pairs.
 fn outside(file: &'static str, pairs: &'static str) -> Outside<'static> {
     Outside {
-        other: Some(("g.txt", pairs.as_bytes())),
+        other_name: "g.txt",
+        other_bytes: pairs.as_bytes(),
         ..Outside::sound("a.txt", file.as_bytes())
     }
 }
