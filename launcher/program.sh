@@ -4,7 +4,7 @@
 
 program=$top/out/otsoft
 built_by_gate=$top/crates/otsoft_main/out/otsoft_main
-time_to_prove='some 20 minutes on four free processors'
+time_to_prove='less than an hour on four free processors'
 
 fail() {
   echo "otsoft: $1" >&2
